@@ -1,0 +1,5 @@
+pub mod DecimalLemmas
+pub mod OrderLemmas
+pub mod ParseLemmas
+pub mod RowLemmas
+pub mod BatchLemmas
