@@ -1,4 +1,4 @@
-ghost use Rattle.std.specs.Prelude.{◌≡◌, ◌≤◌, ℕ, List, length, Option, Some, Err, IfOk};
+ghost use Rattle.std.specs.Prelude.{◌≡◌, ◌≤◌, ◌<◌, ◌+◌, take, ℕ, List, length, Option, Some, Err, IfOk};
 ghost use Rattle.dfx_outside.specs.Causes.{HasCause, Rose};
 ghost use Rattle.dfx_outside.specs.Bytes.{IsFilled};
 ghost use Rattle.dfx_outside.specs.declared.source.OutsideRefused.TheVariants as refused;
@@ -43,6 +43,37 @@ pub trait Source: Send {
         ensures cause { HasCause (faults self.old) (faults self.new) result };
 }
 
+// Reads bytes from `at` into the buffer from `at`, and answers how many. Where the bytes are told, the buffer then
+// begins with that many more of them than it did.
+fn read_more<S: Source>(source: &mut S, buffer: &mut [u8], at: usize) -> Result<usize, Failed>
+    requires { at ≤ length buffer.old }
+    ensures within { IfOk result (λ n. at + n ≤ length buffer.old) }
+    ensures front { (v : List ℕ) → S.told source.old ≡ Some v → take at buffer.old ≡ take at v → IfOk result (λ n. take (at + n) buffer.new ≡ take (at + n) v) }
+    ensures some { (v : List ℕ) → S.told source.old ≡ Some v → at < length buffer.old → at < length v → IfOk result (λ n. 0 < n) }
+    ensures same { (S.told source.new ≡ S.told source.old) × (S.size source.new ≡ S.size source.old) }
+    ensures cause { HasCause (S.faults source.old) (S.faults source.new) result }
+{
+    source.read_at(at as u64, &mut buffer[at..])
+}
+
+// Fills the buffer from its start, up to the first read that gives none, and answers how far.
+fn fill<S: Source>(source: &mut S, buffer: &mut [u8]) -> Result<usize, Failed>
+    ensures within { IfOk result (λ n. n ≤ length buffer.old) }
+    ensures front { (v : List ℕ) → S.told source.old ≡ Some v → length buffer.old ≡ length v → IfOk result (λ n. take n buffer.new ≡ v) }
+    ensures same { (S.told source.new ≡ S.told source.old) × (S.size source.new ≡ S.size source.old) }
+    ensures cause { HasCause (S.faults source.old) (S.faults source.new) result }
+{
+    let mut at = 0;
+    while at < buffer.len() {
+        let count = read_more(source, buffer, at)?;
+        if count == 0 {
+            break;
+        }
+        at += count;
+    }
+    Ok(at)
+}
+
 /// All the bytes of a source, read below its size and up to the first read that gives none.
 pub fn read_all<S: Source>(alloc: Global, source: &mut S) -> Result<Vec<u8>, OutsideRefused>
     ensures bytes { (v : List ℕ) → S.told source.old ≡ Some v → IfOk result (λ all. all.items ≡ v) }
@@ -55,14 +86,11 @@ pub fn read_all<S: Source>(alloc: Global, source: &mut S) -> Result<Vec<u8>, Out
     let Ok(mut all) = vec![in alloc; 0u8; size] else {
         return Err(OutsideRefused::NoMemory);
     };
-    let mut at = 0;
-    while at < size {
-        match source.read_at(at as u64, &mut all[at..]) {
-            Err(_) => return Err(OutsideRefused::Failed),
-            Ok(0) => break,
-            Ok(count) => at += count,
+    match fill(source, &mut all) {
+        Err(_) => Err(OutsideRefused::Failed),
+        Ok(count) => {
+            all.truncate(count);
+            Ok(all)
         }
     }
-    all.truncate(at);
-    Ok(all)
 }
