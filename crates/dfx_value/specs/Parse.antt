@@ -84,10 +84,6 @@ dec_of p s bs = dec_parts p s (negative bs) (whole (unsigned bs)) (fraction (uns
 abbrev pub bool_of : List ℕ → Option Bool
 bool_of bs = if bytes_eq (str_to_ascii_lowercase bs) (codes "true") then Some true else (if bytes_eq (str_to_ascii_lowercase bs) (codes "false") then Some false else None)
 
-abbrev pub IsKind : Kind → Type 0
-IsKind (kind.Dec p s) = (p ≤ 38) × (s ≤ p)
-IsKind _ = ⊤
-
 abbrev pub text_of : List ℕ → Option Value
 text_of bs = if is_utf8 bs then Some (value.Text bs) else None
 

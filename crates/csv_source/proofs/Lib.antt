@@ -1,0 +1,4 @@
+pub mod RecordSteps
+pub mod FieldSteps
+pub mod ItemSteps
+pub mod OpenSteps

@@ -1,0 +1,6 @@
+pub mod CsvItems
+pub mod Records
+pub mod Rows
+pub mod Scans
+pub mod ScanView
+pub mod Progress
