@@ -1,5 +1,5 @@
 -- The items of records, one by one.
-use Rattle.std.proofs.Common.{◌≡◌, refl, ℕ, zero, suc, ◌+◌, ◌^◌, ◌≤◌, ◌<◌, Bool, true, false, List, [], ◌∷◌, ◌++◌, length, map, take, drop, Option, Some, None, option_map, Result, Ok, Err, ap, sym, ◌∙◌, arith, append_assoc}
+use Rattle.std.proofs.Common.{◌≡◌, refl, ℕ, zero, suc, ◌+◌, ◌^◌, ◌≤◌, ◌<◌, Bool, true, false, List, [], ◌∷◌, ◌++◌, length, map, take, drop, Option, Some, None, option_map, Result, Ok, Err, ap, sym, ◌∙◌, arith, append_assoc, length-append}
 use Rattle.std.proofs.Math.Seq.{take-append_seam, drop-append_seam}
 use Rattle.std.proofs.lemmas.List.{take_all, drop_all, append-nil}
 use Rattle.dfx_value.specs.declared.kind.Kind.{Kind}
@@ -9,6 +9,7 @@ use Rattle.csv_source.specs.declared.refused.CsvRefused.TheVariants as refused
 use Rattle.csv_source.specs.CsvItems.{Item, items_from, and_then, record_item, is_bad}
 use Rattle.csv_source.specs.Records.{Fields, Takes, HasNone}
 use Rattle.csv_source.specs.Rows.{Gives}
+use Rattle.csv_source.specs.ScanView.{left_count}
 use Rattle.csv_source.specs.Scans.{Counts, rows_then, GivesRows, IsRefused}
 
 -- a record that was taken had a number that fits, and so has the next
@@ -99,4 +100,16 @@ never_read A (refused.NotUtf8 n) wanted h e = cc
 never_read A (refused.Value n c) wanted h e = cc
 
 pub ruleset item_steps = (gives_bad, number_fits, counts_after, items_none, items_after, items_refused)
-pub ruleset batch_steps = (gives_full, gives_short, refused_after)
+-- the rows so far and the items after them are as many as there were
+pub falls_after : (rows : List (List Cell)) (now start : Option (List Item)) (recs : Option (List Fields)) (kinds : List Kind) (n : ℕ)
+    → now ≡ option_map (items_from kinds n) recs → Counts recs n → option_map (rows_then rows) now ≡ start → length rows + left_count now ≤ left_count start
+falls_after rows now start None kinds n e c whole = absurd c
+falls_after rows now start (Some rs) kinds n e c whole =
+    rw (← whole, e) (omega (arith, length-append (map {B = Item} Ok rows) (items_from kinds n rs), length-oks rows))
+
+-- where none is left, the rows are as many as there were
+pub falls_at_end : (rows : List (List Cell)) (now start : Option (List Item)) → now ≡ Some [] → option_map (rows_then rows) now ≡ start → length rows + left_count (Some []) ≤ left_count start
+falls_at_end rows now start e whole =
+    rw (← whole, e) (omega (arith, length-append {A = Item} (map Ok rows) [], length-oks rows))
+
+pub ruleset batch_steps = (gives_full, gives_short, refused_after, falls_after, falls_at_end)

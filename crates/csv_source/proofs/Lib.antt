@@ -2,3 +2,4 @@ pub mod RecordSteps
 pub mod FieldSteps
 pub mod ItemSteps
 pub mod OpenSteps
+pub mod LeftSteps

@@ -1,5 +1,5 @@
 -- Meaning: a scan of a CSV file as a caller sees it.
-use Rattle.std.specs.Prelude.{List, Option, Bool}
+use Rattle.std.specs.Prelude.{ℕ, ◌^◌, List, length, Option, Some, None, Bool}
 use Rattle.dfx_value.specs.declared.kind.Kind.{Kind}
 use Rattle.csv_source.specs.CsvItems.{Item}
 
@@ -9,3 +9,8 @@ pub record ScanView (S : Type 0) : Type 0 where
   pub kinds : List Kind
   pub left : Option (List Item)
   pub refused : Bool
+
+-- a bound on the items that are left; where they aren't known, on those of any file
+abbrev pub left_count : Option (List Item) → ℕ
+left_count None = 2 ^ 64
+left_count (Some items) = length items

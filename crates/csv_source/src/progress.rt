@@ -6,6 +6,7 @@ ghost use Rattle.dfx_outside.specs.Causes.{Rose};
 ghost use Rattle.dfx_value.specs.Kinds.{are_kinds};
 ghost use Rattle.csv_source.specs.CsvItems.{Item, csv_items, is_bad};
 ghost use Rattle.csv_source.specs.Progress.{left_of, is_begun, IsSound};
+ghost use Rattle.csv_source.specs.ScanView.{left_count};
 ghost use Rattle.csv_source.specs.Scans.{GivesRows, IsRefused};
 ghost use Rattle.csv_source.specs.declared.refused.CsvRefused.{CsvRefused as Refusal};
 ghost use Rattle.csv_source.specs.declared.refused.CsvRefused.TheVariants as refused;
@@ -72,11 +73,13 @@ fn open<R: Read + Drop>(alloc: Global, kinds: &[Kind], bytes: R) -> Result<Progr
     Ok(Progress::Reading(reading))
 }
 
+#[tactic(auto, using(crate::proofs::LeftSteps::left_few))]
 /// Reads the whole source and takes the header.
 pub fn begin<S: Source>(alloc: Global, source: &mut S, kinds: &[Kind]) -> Result<Progress<Cursor<Vec<u8>>>, CsvRefused>
     ensures begun { IfOk result (λ progress. is_begun progress ≡ true) }
     ensures sound { IfOk result (λ progress. IsSound (cursor_remaining (λ v. Some v.items)) progress) }
     ensures left { (all : List ℕ) → S.told source.old ≡ Some all → IfOk result (λ progress. left_of (cursor_remaining (λ v. Some v.items)) None kinds.now progress ≡ Some (csv_items all kinds.now)) }
+    ensures few { IfOk result (λ progress. left_count (left_of (cursor_remaining (λ v. Some v.items)) None kinds.now progress) ≤ 2 ^ 64) }
     ensures refused { (all : List ℕ) (e : Refusal) → S.told source.old ≡ Some all → result ≡ Err e → is_bad e ≡ true → csv_items all kinds.now ≡ Err e ∷ [] }
     ensures read { result ≡ Err refused.Read → Rose (S.faults source.old) (S.faults source.new) }
     ensures same { S.told source.new ≡ S.told source.old }
@@ -89,6 +92,7 @@ pub fn begin<S: Source>(alloc: Global, source: &mut S, kinds: &[Kind]) -> Result
     }
 }
 
+#[tactic(auto, using(crate::proofs::LeftSteps::left_steps))]
 /// The next rows of a scan that has begun.
 pub fn advance<R: Read + Drop>(alloc: Global, kinds: &[Kind], progress: Progress<R>, rows: u32) -> Result<Advanced<R>, CsvRefused>
     requires kinds { are_kinds kinds.now ≡ true }
@@ -101,6 +105,7 @@ pub fn advance<R: Read + Drop>(alloc: Global, kinds: &[Kind], progress: Progress
     ensures sound { IfOk result (λ next. IsSound R.remaining next.progress) }
     ensures gives { (items : List Item) → left_of R.remaining None kinds.now progress ≡ Some items
         → IfOk result (λ next. GivesRows rows items next.batch.rows (left_of R.remaining None kinds.now next.progress)) }
+    ensures falls { IfOk result (λ next. length next.batch.rows + left_count (left_of R.remaining None kinds.now next.progress) ≤ left_count (left_of R.remaining None kinds.now progress)) }
     ensures refused { (items : List Item) (e : Refusal) → left_of R.remaining None kinds.now progress ≡ Some items → result ≡ Err e → is_bad e ≡ true → IsRefused rows items e }
     ensures read { result ≢ Err refused.Read }
 {

@@ -1,9 +1,10 @@
 //! The rows of the records that a reader has left.
 
-ghost use Rattle.std.specs.Prelude.{◌≡◌, ◌≢◌, ◌+◌, ◌^◌, ◌<◌, ◌++◌, ◌∷◌, [], ℕ, List, true, false, length, Ok, Err, Some, option_map, IfOk, OnOk, if◌then◌else◌};
+ghost use Rattle.std.specs.Prelude.{◌≡◌, ◌≢◌, ◌+◌, ◌^◌, ◌<◌, ◌≤◌, ◌++◌, ◌∷◌, [], ℕ, List, true, false, length, Ok, Err, Some, option_map, IfOk, OnOk, if◌then◌else◌};
 ghost use Rattle.dfx_value.specs.Kinds.{are_kinds};
 ghost use Rattle.csv_source.specs.CsvItems.{Item, is_bad};
 ghost use Rattle.csv_source.specs.Records.{IsSet, records_left};
+ghost use Rattle.csv_source.specs.ScanView.{left_count};
 ghost use Rattle.csv_source.specs.Scans.{Counts, items_left, rows_then, GivesRows, IsRefused};
 ghost use Rattle.csv_source.specs.declared.refused.CsvRefused.{CsvRefused as Refusal};
 ghost use Rattle.csv_source.specs.declared.refused.CsvRefused.TheVariants as refused;
@@ -78,6 +79,8 @@ pub fn read_rows<R: Read + Drop>(alloc: Global, kinds: &[Kind], reading: &mut Re
     ensures counts { IfOk result (λ given. given.ended ≡ false → Counts (records_left R.remaining reading.new.reader) reading.new.number) }
     ensures gives { (items : List Item) → items_left R.remaining kinds.now reading.old.number reading.old.reader ≡ Some items
         → IfOk result (λ given. GivesRows rows items given.batch.rows (if given.ended then Some [] else items_left R.remaining kinds.now reading.new.number reading.new.reader)) }
+    ensures falls { IfOk result (λ given. length given.batch.rows + left_count (if given.ended then Some [] else items_left R.remaining kinds.now reading.new.number reading.new.reader)
+        ≤ left_count (items_left R.remaining kinds.now reading.old.number reading.old.reader)) }
     ensures refused { (items : List Item) (e : Refusal) → items_left R.remaining kinds.now reading.old.number reading.old.reader ≡ Some items
         → result ≡ Err e → is_bad e ≡ true → IsRefused rows items e }
     ensures read { result ≢ Err refused.Read }

@@ -4,6 +4,7 @@ ghost use Rattle.std.specs.Prelude.{◌≡◌, ◌^◌, ◌+◌, ◌<◌, ◌≤
 ghost use Rattle.dfx_outside.specs.Causes.{Rose};
 ghost use Rattle.dfx_value.specs.Kinds.{are_kinds};
 ghost use Rattle.csv_source.specs.CsvItems.{Item, csv_items, is_bad};
+ghost use Rattle.csv_source.specs.ScanView.{left_count};
 ghost use Rattle.csv_source.specs.Scans.{GivesRows, IsRefused};
 ghost use Rattle.csv_source.specs.declared.refused.CsvRefused.{CsvRefused as Refusal};
 ghost use Rattle.csv_source.specs.declared.refused.CsvRefused.TheVariants as refused;
@@ -73,6 +74,7 @@ impl<S: Source> CsvScan<S> {
 
         ensures kinds { IfOk result (λ batch. batch.kinds ≡ self.old.kinds) }
         ensures gives { (items : List Item) → self.old.left ≡ Some items → IfOk result (λ batch. GivesRows rows items batch.rows self.new.left) }
+        ensures falls { IfOk result (λ batch. length batch.rows + left_count self.new.left ≤ left_count self.old.left) }
         ensures going { OnOk result (self.new.refused ≡ false) }
 
         // The file's refusal comes exactly where it is among the next items; the source's only where its count rose.

@@ -1,0 +1,16 @@
+-- The lines of rows, one more.
+use Rattle.std.proofs.Common.{◌≡◌, ℕ, zero, suc, ◌+◌, ◌<◌, List, [], ◌∷◌, ◌++◌, length, map, take, get_or, ◌∙◌, sym, ap, refl, append_assoc, arith}
+use Rattle.std.proofs.lemmas.List.{take_more, append-nil, map-append}
+use Rattle.dfx_value.specs.declared.value.Value.{Value as Cell}
+use Rattle.result_text.specs.AnswerText.{row_line, row_lines}
+
+row_lines-append : (rows : List (List Cell)) (row : List Cell) → row_lines (rows ++ row ∷ []) ≡ row_lines rows ++ row_line row
+row_lines-append [] row = append-nil (row_line row)
+row_lines-append (r ∷ rs) row = ap (λ (t : List ℕ). row_line r ++ t) (row_lines-append rs row) ∙ sym (append_assoc (row_line r) (row_lines rs) (row_line row))
+
+pub lines_more : (f : List Cell → List Cell) (rows : List (List Cell)) (i : ℕ) (d : List Cell) → i < length rows
+    → row_lines (map f (take (i + 1) rows)) ≡ row_lines (map f (take i rows)) ++ row_line (f (get_or rows i d))
+lines_more f rows i d l =
+    ap (λ (t : List (List Cell)). row_lines (map f t)) (take_more rows i d l)
+    ∙ ap row_lines (map-append f (take i rows) (get_or rows i d ∷ []))
+    ∙ row_lines-append (map f (take i rows)) (f (get_or rows i d))

@@ -1,0 +1,10 @@
+//! The text of an answer: a header and rows, as the crate `csv` writes them with its default writer.
+#![tactic(auto)]
+
+mod lines;
+mod text;
+
+pub use text::{header_text, rows_text};
+
+#[cfg(test)]
+mod tests;
