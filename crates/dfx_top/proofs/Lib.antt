@@ -1,0 +1,2 @@
+pub mod ThinSteps
+pub mod FaultSteps

@@ -1,0 +1,6 @@
+pub mod Names
+pub mod Words
+pub mod Failures
+pub mod Thin
+pub mod Outcomes
+pub mod Runs

@@ -1,0 +1,13 @@
+//! The command: from its words and the files to the answer and the status.
+#![tactic(auto)]
+
+mod answer;
+mod command;
+mod failure;
+mod files;
+mod names;
+mod thin;
+mod words;
+
+//pub use command::{Finished, command_here};
+//pub use failure::{Failure, fault_text};
