@@ -1,2 +1,3 @@
 pub mod ThinSteps
 pub mod FaultSteps
+pub mod RunSteps

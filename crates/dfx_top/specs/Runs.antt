@@ -4,6 +4,11 @@ use Rattle.dfx_outside.specs.Bytes.{EndsInFront}
 use Rattle.dfx_value.specs.declared.value.Value.{Value as Cell}
 use Rattle.csv_source.specs.CsvItems.{Item}
 use Rattle.csv_source.specs.declared.refused.CsvRefused.{CsvRefused}
+use Rattle.csv_source.specs.declared.refused.CsvRefused.TheVariants as csv
+use Rattle.dfx_outside.specs.declared.source.OutsideRefused.{OutsideRefused}
+use Rattle.dfx_outside.specs.declared.source.OutsideRefused.TheVariants as outside
+use Rattle.dfx_top.specs.declared.answer.RunRefused.{RunRefused}
+use Rattle.dfx_top.specs.declared.answer.RunRefused.TheVariants as refused
 use Rattle.result_text.specs.AnswerText.{row_lines, picked}
 
 -- the rows of a batch: 8,192
@@ -45,3 +50,17 @@ pub record WrotePart (column : ℕ) (items : List Item) (before : List ℕ) (now
   pub rest : List Item
   pub is : items ≡ map Ok rows ++ rest
   pub written : EndsInFront before (column_lines column rows) now
+
+-- what a refused scan means for the run
+abbrev pub of_scan : CsvRefused → RunRefused
+of_scan (csv.Header fields) = refused.Bad
+of_scan (csv.Fields n) = refused.Bad
+of_scan (csv.NotUtf8 n) = refused.Bad
+of_scan (csv.Value n c) = refused.Bad
+of_scan csv.Read = refused.Read
+of_scan csv.NoMemory = refused.NoMemory
+
+-- what a refused write means for the run
+abbrev pub of_sink : OutsideRefused → RunRefused
+of_sink outside.Failed = refused.Write
+of_sink outside.NoMemory = refused.NoMemory

@@ -1,0 +1,93 @@
+-- Rows of a table, a batch more.
+use Rattle.std.proofs.Common.{◌≡◌, ◌≢◌, refl, ℕ, suc, ◌+◌, ◌-◌, ◌%◌, ◌≤◌, ◌<◌, true, List, [], ◌∷◌, ◌++◌, length, map, take, drop, Option, Some, None, Ok, Err, ap, sym, ◌∙◌, arith, append_assoc, length-append, min}
+use Rattle.std.proofs.Math.Seq.{take-append-add, take-length}
+use Rattle.std.proofs.lemmas.List.{take_all, take-append-drop, append-nil, map-append, length-take}
+use Rattle.dfx_outside.specs.Bytes.{EndsInFront}
+use Rattle.dfx_value.specs.declared.value.Value.{Value as Cell}
+use Rattle.csv_source.specs.CsvItems.{Item, is_bad}
+use Rattle.csv_source.specs.Scans.{GivesRows, IsRefused}
+use Rattle.csv_source.specs.declared.refused.CsvRefused.{CsvRefused}
+use Rattle.csv_source.specs.declared.refused.CsvRefused.TheVariants as csv
+use Rattle.csv_source.proofs.ItemSteps.{length-oks}
+use Rattle.result_text.specs.AnswerText.{row_line, row_lines, picked}
+use Rattle.dfx_top.specs.Runs.{batch_rows, column_lines, Wrote, WroteAll, WroteBefore, WrotePart, of_scan}
+use Rattle.dfx_top.specs.declared.answer.RunRefused.TheVariants as refused
+
+lines-append : (xs ys : List (List Cell)) → row_lines (xs ++ ys) ≡ row_lines xs ++ row_lines ys
+lines-append [] ys = refl
+lines-append (x ∷ xs) ys = ap (λ (t : List ℕ). row_line x ++ t) (lines-append xs ys) ∙ sym (append_assoc (row_line x) (row_lines xs) (row_lines ys))
+
+column_lines-append : (column : ℕ) (xs ys : List (List Cell)) → column_lines column (xs ++ ys) ≡ column_lines column xs ++ column_lines column ys
+column_lines-append column xs ys = ap row_lines (map-append (picked (column ∷ [])) xs ys) ∙ lines-append (map (picked (column ∷ [])) xs) (map (picked (column ∷ [])) ys)
+
+oks-append : (xs ys : List (List Cell)) (rest : List Item) → map Ok xs ++ (map Ok ys ++ rest) ≡ map Ok (xs ++ ys) ++ rest
+oks-append [] ys rest = refl
+oks-append (x ∷ xs) ys rest = ap (λ (t : List Item). Ok x ∷ t) (oks-append xs ys rest)
+
+-- the items after a batch
+taken : (items rest : List Item) (rows batch : List (List Cell)) (left : Option (List Item)) → items ≡ map Ok rows ++ rest → GivesRows batch_rows rest batch left
+    → items ≡ map Ok (rows ++ batch) ++ drop batch_rows rest
+taken items rest rows batch left is gives =
+    is ∙ ap (λ (t : List Item). map Ok rows ++ t) (sym (take-append-drop batch_rows rest) ∙ ap (λ (t : List Item). t ++ drop batch_rows rest) (sym gives.next))
+    ∙ oks-append rows batch (drop batch_rows rest)
+
+written_more : (column : ℕ) (before : List ℕ) (rows batch : List (List Cell)) (now : Option (List ℕ)) → now ≡ Some ((before ++ column_lines column rows) ++ column_lines column batch)
+    → now ≡ Some (before ++ column_lines column (rows ++ batch))
+written_more column before rows batch now e = e ∙ ap Some (append_assoc before _ _ ∙ ap (λ (t : List ℕ). before ++ t) (sym (column_lines-append column rows batch)))
+
+pub wrote_more : (column : ℕ) (items : List Item) (before : List ℕ) (left more : Option (List Item)) (told now : Option (List ℕ)) (w : Wrote column items before left told) (batch : List (List Cell))
+    → GivesRows batch_rows w.rest batch more → length batch ≡ batch_rows → now ≡ Some ((before ++ column_lines column w.rows) ++ column_lines column batch) → Wrote column items before more now
+wrote_more column items before left more told now w batch gives full e = record {
+  rows = w.rows ++ batch;
+  rest = drop batch_rows w.rest;
+  is = taken items w.rest w.rows batch more w.is gives;
+  left_is = gives.rest;
+  written = written_more column before w.rows batch now e;
+  whole = rw (length-append w.rows batch, full) (omega (arith, w.whole));
+}
+
+pub wrote_last : (column : ℕ) (items : List Item) (before : List ℕ) (left more : Option (List Item)) (told now : Option (List ℕ)) (w : Wrote column items before left told) (batch : List (List Cell))
+    → GivesRows batch_rows w.rest batch more → length batch ≢ batch_rows → now ≡ Some ((before ++ column_lines column w.rows) ++ column_lines column batch) → WroteAll column items before now
+wrote_last column items before left more told now w batch gives short e =
+    let count : min batch_rows (length w.rest) ≡ length batch = sym (length-take batch_rows w.rest) ∙ ap length (sym gives.next) ∙ length-oks batch in
+    let few : length w.rest ≤ batch_rows = ? in
+    record {
+      rows = w.rows ++ batch;
+      is = ?;
+      written = written_more column before w.rows batch now e;
+    }
+
+pub wrote_before : (column : ℕ) (items : List Item) (before : List ℕ) (left : Option (List Item)) (told : Option (List ℕ)) (w : Wrote column items before left told) (e : CsvRefused)
+    → IsRefused batch_rows w.rest e → WroteBefore column items before told
+wrote_before column items before left told w e r = record {
+  rows = w.rows;
+  others = r.rows;
+  refusal = e;
+  is = ?;
+  whole = w.whole;
+  few = r.few;
+  written = w.written;
+}
+
+pub wrote_none : (column : ℕ) (items : List Item) (before : List ℕ) (left : Option (List Item)) (told : Option (List ℕ)) (w : Wrote column items before left told) → WrotePart column items before told
+wrote_none column items before left told w = record {
+  rows = w.rows;
+  rest = w.rest;
+  is = w.is;
+  written = record { count = length (column_lines column w.rows); is = w.written ∙ ap (λ (t : List ℕ). Some (before ++ t)) (sym (take-length (column_lines column w.rows))) };
+}
+
+pub wrote_some : (column : ℕ) (items : List Item) (before : List ℕ) (left more : Option (List Item)) (told now : Option (List ℕ)) (w : Wrote column items before left told) (batch : List (List Cell))
+    → GivesRows batch_rows w.rest batch more → EndsInFront (before ++ column_lines column w.rows) (column_lines column batch) now → WrotePart column items before now
+wrote_some column items before left more told now w batch gives e = record {
+  rows = w.rows ++ batch;
+  rest = drop batch_rows w.rest;
+  is = taken items w.rest w.rows batch more w.is gives;
+  written = record {
+    count = length (column_lines column w.rows) + e.count;
+    is = e.is ∙ ap Some (append_assoc before _ _ ∙ ap (λ (t : List ℕ). before ++ t)
+        (sym (ap (take (length (column_lines column w.rows) + e.count)) (column_lines-append column w.rows batch) ∙ take-append-add (column_lines column w.rows) (column_lines column batch) e.count)));
+  };
+}
+
+pub ruleset run_steps = (wrote_none)
