@@ -1,5 +1,6 @@
-ghost use Rattle.std.specs.Prelude.{◌≡◌, ℕ, ◌+◌, ◌-◌, ◌<◌, ◌≤◌, ◌↔◌, sum, length, IsOk, IfOk, IfErr, OnOk, OnErr, replicate, slice_set};
-ghost use Rattle.fair_pool.specs.Share.{share_of, held_by, with_held, spillables};
+ghost use Rattle.std.specs.Prelude.{◌≡◌, ℕ, ◌+◌, ◌-◌, ◌<◌, ◌≤◌, ◌↔◌, sum, length, IsOk, IfOk, IfErr, OnOk, OnErr, slice_set};
+ghost use Rattle.fair_pool.specs.Share.{unreserved, share_of, held_by, with_held, spillables};
+ghost use Rattle.fair_pool.specs.Refusal.{Tells};
 
 use dfx_value::NoMemory;
 use std::alloc::Global;
@@ -59,7 +60,7 @@ impl Pool {
     /// A pool of `limit` bytes of which nothing is held, with one consumer for each member of `spillable`, which says
     /// whether it can spill.
     pub fn new(alloc: Global, limit: u64, spillable: &[bool]) -> Result<Pool, NoMemory>
-        ensures ok { IfOk result (λ pool. pool ≡ record { limit = limit; spillable = spillable.now; held = replicate (length spillable.now) 0 }) }
+        ensures ok { IfOk result (λ pool. pool ≡ unreserved limit spillable.now) }
     {
         Ok(Pool {
             limit,
@@ -103,7 +104,7 @@ impl Pool {
         ensures ok { OnOk result (self.new ≡ with_held self.old consumer (held_by self.old consumer + bytes)) }
 
         ensures above { OnErr result (share_of self.old consumer < held_by self.old consumer + bytes) }
-        ensures tells { IfErr result (λ e. (e.requested ≡ bytes) × (e.held ≡ held_by self.old consumer) × (e.share ≡ share_of self.old consumer)) }
+        ensures tells { IfErr result (λ e. Tells self.old consumer bytes e) }
         ensures err { OnErr result (self.new ≡ self.old) }
     {
         let held = self.held(consumer);

@@ -1,7 +1,7 @@
 ghost use Rattle.std.specs.Prelude.{◌≡◌, ℕ, ◌<◌, List, [], ◌++◌, length, IfOk, Some, map};
 ghost use Rattle.gate_channels.specs.Tasks.{count};
 ghost use Rattle.gate_channels.specs.Gate.{channel_at, one_of, ended, dropped};
-ghost use Rattle.gate_channels.specs.Group.{WaitApart, opened_for};
+ghost use Rattle.gate_channels.specs.Group.{WaitApart, KeepsSize, opened_gate};
 ghost use Rattle.gate_channels.specs.Answers.{Moves, Sends, Receives};
 
 use crate::channel::{Channel, any_live, opened};
@@ -74,7 +74,8 @@ impl<B> Group<B> {
     pub fn new(alloc: Global, senders: &[u32], tasks: u32) -> Result<Group<B>, NoMemory>
     where
         B: Drop,
-        ensures ok { IfOk result (λ group. (group.gate ≡ record { channels = map opened_for senders.now; queue = [] }) × (group.room ≡ tasks)) }
+        ensures gate { IfOk result (λ group. group.gate ≡ opened_gate senders.now) }
+        ensures room { IfOk result (λ group. group.room ≡ tasks) }
     {
         let queue = Woken::new(alloc, tasks)?;
         let mut channels = Vec::with_capacity(alloc, senders.len())?;
@@ -98,7 +99,7 @@ impl<B> Group<B> {
         requires apart { WaitApart self.old woken.old }
 
         ensures answer { Sends self.old.gate task channel batch result self.new.gate woken.old.tasks woken.new.tasks }
-        ensures same { (length self.new.gate.channels ≡ length self.old.gate.channels) × (self.new.room ≡ self.old.room) × (woken.new.room ≡ woken.old.room) }
+        ensures size { KeepsSize self.old self.new woken.old woken.new }
     {
         let at = channel as usize;
         if !self.channels[at].live {
@@ -126,7 +127,7 @@ impl<B> Group<B> {
         requires apart { WaitApart self.old woken.old }
 
         ensures answer { Receives self.old.gate task channel result self.new.gate woken.old.tasks woken.new.tasks }
-        ensures same { (length self.new.gate.channels ≡ length self.old.gate.channels) × (self.new.room ≡ self.old.room) × (woken.new.room ≡ woken.old.room) }
+        ensures size { KeepsSize self.old self.new woken.old woken.new }
     {
         let (answer, last) = self.channels[channel as usize].take(task);
         if last {
@@ -143,7 +144,7 @@ impl<B> Group<B> {
         requires apart { WaitApart self.old woken.old }
 
         ensures moves { Moves (ended self.old.gate channel) self.new.gate woken.old.tasks woken.new.tasks }
-        ensures same { (length self.new.gate.channels ≡ length self.old.gate.channels) × (self.new.room ≡ self.old.room) × (woken.new.room ≡ woken.old.room) }
+        ensures size { KeepsSize self.old self.new woken.old woken.new }
     {
         let waiting = self.channels[channel as usize].end();
         wake(waiting, woken);
@@ -158,7 +159,7 @@ impl<B> Group<B> {
         requires apart { WaitApart self.old woken.old }
 
         ensures moves { Moves (dropped self.old.gate channel) self.new.gate woken.old.tasks woken.new.tasks }
-        ensures same { (length self.new.gate.channels ≡ length self.old.gate.channels) × (self.new.room ≡ self.old.room) × (woken.new.room ≡ woken.old.room) }
+        ensures size { KeepsSize self.old self.new woken.old woken.new }
     {
         self.channels[channel as usize].close();
         woken.append(&mut self.queue);

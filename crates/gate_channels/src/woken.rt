@@ -30,7 +30,8 @@ impl Model for Woken {
 impl Woken {
     /// An empty queue for the tasks below `tasks`.
     pub fn new(alloc: Global, tasks: u32) -> Result<Woken, NoMemory>
-        ensures ok { IfOk result (λ woken. (woken.tasks ≡ []) × (woken.room ≡ tasks)) }
+        ensures tasks { IfOk result (λ woken. woken.tasks ≡ []) }
+        ensures room { IfOk result (λ woken. woken.room ≡ tasks) }
     {
         let queue = VecDeque::with_capacity(alloc, tasks as usize)?;
         Ok(Woken { queue, room: tasks })
