@@ -33,7 +33,11 @@ impl StdErr {
 }
 
 /// What a write took; a write that took nothing of a piece that isn't empty is a failure, which is counted.
-fn taken(written: io::Result<usize>, faults: &mut u64, length: usize) -> Result<usize, OutsideRefused>
+fn taken(
+    written: io::Result<usize>,
+    faults: &mut u64,
+    length: usize,
+) -> Result<usize, OutsideRefused>
     ensures count { IfOk result (λ n. written ≡ Ok n) }
     ensures some { 0 < length → IfOk result (λ n. 0 < n) }
     ensures later { faults.old ≤ faults.new }

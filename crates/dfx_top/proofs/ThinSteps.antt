@@ -63,7 +63,7 @@ pub declared_text : (b0 b1 b2 b3 b4 b5 b6 rest table path : List ℕ) (columns :
     → b3 ≡ columns_text columns ++ b4 → b4 ≡ codes ") STORED AS CSV LOCATION '" ++ b5 → b5 ≡ path ++ b6 → b6 ≡ codes "';" ++ rest → b0 ≡ declared table columns path ++ rest
 declared_text b0 b1 b2 b3 b4 b5 b6 rest table path columns e0 e1 e2 e3 e4 e5 e6 =
     e0 ∙ under (codes "CREATE EXTERNAL TABLE ") _ _ (e1 ∙ under table _ _ (e2 ∙ under (codes " (") _ _ (
-        e3 ∙ under (columns_text columns) _ _ (e4 ∙ under (codes ") STORED AS CSV LOCATION '") _ _ (e5 ∙ under path _ _ e6)))))
+    e3 ∙ under (columns_text columns) _ _ (e4 ∙ under (codes ") STORED AS CSV LOCATION '") _ _ (e5 ∙ under path _ _ e6)))))
     ∙ regroup_declared (codes "CREATE EXTERNAL TABLE ") table (codes " (") (columns_text columns) (codes ") STORED AS CSV LOCATION '") path (codes "';") rest
 
 pub selects_text : (b0 b1 b2 b3 b4 ending gap selected table : List ℕ) → b0 ≡ gap ++ b1 → b1 ≡ codes "SELECT " ++ b2 → b2 ≡ selected ++ b3 → b3 ≡ codes " FROM " ++ b4
@@ -77,5 +77,7 @@ all_columns [] c h e = both _ _ e refl
 all_columns (d ∷ cs) c h e = both _ _ (left_of _ _ h) (all_columns cs c (right_of _ _ h) e)
 
 pub ruleset declaration_steps = (declared_text)
+
 pub ruleset selection_steps = (selects_text, after_word)
+
 pub ruleset script_steps = (same_points)

@@ -32,8 +32,13 @@ pub fn scan_refused(refused: CsvRefused) -> RunRefused
     ensures { result ≡ of_scan refused }
 {
     match refused {
-        CsvRefused::Header { fields: _ } | CsvRefused::Fields { number: _ } | CsvRefused::NotUtf8 { number: _ } => RunRefused::Bad,
-        CsvRefused::Value { number: _, column: _ } => RunRefused::Bad,
+        CsvRefused::Header { fields: _ }
+        | CsvRefused::Fields { number: _ }
+        | CsvRefused::NotUtf8 { number: _ } => RunRefused::Bad,
+        CsvRefused::Value {
+            number: _,
+            column: _,
+        } => RunRefused::Bad,
         CsvRefused::Read => RunRefused::Read,
         CsvRefused::NoMemory => RunRefused::NoMemory,
     }
@@ -51,7 +56,12 @@ pub fn sink_refused(refused: OutsideRefused) -> RunRefused
 
 /// Writes one column of the next batch, and tells whether rows may be left.
 #[tactic(auto, using(crate::proofs::RunSteps::run_steps))]
-fn write_batch<S: Source, K: Sink>(alloc: Global, column: u32, scan: &mut CsvScan<S>, sink: &mut K) -> Result<bool, RunRefused>
+fn write_batch<S: Source, K: Sink>(
+    alloc: Global,
+    column: u32,
+    scan: &mut CsvScan<S>,
+    sink: &mut K,
+) -> Result<bool, RunRefused>
     requires going { scan.old.refused ≡ false }
     requires column { column < length scan.old.kinds }
 
@@ -82,7 +92,12 @@ fn write_batch<S: Source, K: Sink>(alloc: Global, column: u32, scan: &mut CsvSca
 
 /// Writes one column of all rows that a scan has left, batch by batch. After a refusal of the file the rows before its
 /// batch were written.
-pub fn write_rows<S: Source, K: Sink>(alloc: Global, column: u32, scan: &mut CsvScan<S>, sink: &mut K) -> Result<(), RunRefused>
+pub fn write_rows<S: Source, K: Sink>(
+    alloc: Global,
+    column: u32,
+    scan: &mut CsvScan<S>,
+    sink: &mut K,
+) -> Result<(), RunRefused>
     requires going { scan.old.refused ≡ false }
     requires column { column < length scan.old.kinds }
 

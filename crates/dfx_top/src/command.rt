@@ -19,6 +19,7 @@ use dfx_value::Text;
 use std::alloc::Global;
 
 /// What a command leaves: its status, what it was given, and why it has no answer.
+#[derive(Drop)]
 pub struct Finished<F, K, E> {
     /// 0 where there is no failure, else the failure's.
     pub status: u8,
@@ -29,7 +30,12 @@ pub struct Finished<F, K, E> {
 }
 
 /// Reads the script that the words name, and runs it.
-fn run<F: Files, K: Sink>(alloc: Global, words: &[Text], files: &mut F, sink: &mut K) -> Result<(), Failure>
+fn run<F: Files, K: Sink>(
+    alloc: Global,
+    words: &[Text],
+    files: &mut F,
+    sink: &mut K,
+) -> Result<(), Failure>
     ensures ended { (all : Contents) (before : List ℕ) → F.told files.old ≡ Some all → K.told sink.old ≡ Some before → Ended words.now all before (K.told sink.new) (of_result result) }
     ensures words { path_of_words words.now ≡ None → result ≡ Err failure.Words }
     ensures read { result ≡ Err failure.Read → Rose (F.faults files.old) (F.faults files.new) }
@@ -67,7 +73,13 @@ fn report<E: Sink>(alloc: Global, failure: &Failure, err: &mut E)
 /// Runs a command. The words are `query FILE`; the script at that path names one CSV table and selects one of its
 /// columns, which is written to the sink as CSV text. A failure is written to `err` as one line. All that was handed in
 /// comes back, with every file closed.
-pub fn command_here<F: Files, K: Sink, E: Sink>(alloc: Global, words: &[Text], mut files: F, mut sink: K, mut err: E) -> Finished<F, K, E>
+pub fn command_here<F: Files, K: Sink, E: Sink>(
+    alloc: Global,
+    words: &[Text],
+    mut files: F,
+    mut sink: K,
+    mut err: E,
+) -> Finished<F, K, E>
     // How it ended, where the files and the sink tell their bytes: what was written, and why there is no answer.
     ensures ended { (all : Contents) (before : List ℕ) → F.told files ≡ Some all → K.told sink ≡ Some before → Ended words.now all before (K.told result.sink) result.failure }
 

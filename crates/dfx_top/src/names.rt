@@ -5,10 +5,10 @@ ghost use Rattle.dfx_top.specs.Names as spec;
 
 /// The reserved words of the dialect.
 const RESERVED: [&str; 44] = [
-    "create", "table", "as", "with", "union", "all", "order", "by", "limit", "offset", "asc", "desc", "nulls",
-    "first", "last", "select", "distinct", "from", "where", "group", "having", "inner", "left", "right", "full",
-    "outer", "join", "on", "or", "and", "not", "is", "null", "in", "between", "true", "false", "case", "when",
-    "then", "else", "end", "cast", "coalesce",
+    "create", "table", "as", "with", "union", "all", "order", "by", "limit", "offset", "asc",
+    "desc", "nulls", "first", "last", "select", "distinct", "from", "where", "group", "having",
+    "inner", "left", "right", "full", "outer", "join", "on", "or", "and", "not", "is", "null",
+    "in", "between", "true", "false", "case", "when", "then", "else", "end", "cast", "coalesce",
 ];
 
 /// Whether a name is one of these words.

@@ -57,7 +57,13 @@ fn column_of(script: &Script) -> u32
 
 /// Writes the header, and then one column of a scan's rows.
 #[tactic(auto, using(crate::proofs::QuerySteps::answer_steps))]
-fn write_answer<S: Source, K: Sink>(alloc: Global, selected: &Text, column: u32, scan: &mut CsvScan<S>, sink: &mut K) -> Result<(), RunRefused>
+fn write_answer<S: Source, K: Sink>(
+    alloc: Global,
+    selected: &Text,
+    column: u32,
+    scan: &mut CsvScan<S>,
+    sink: &mut K,
+) -> Result<(), RunRefused>
     requires going { scan.old.refused ≡ false }
     requires column { column < length scan.old.kinds }
 
@@ -100,7 +106,12 @@ fn run_failure(alloc: Global, refused: RunRefused, path: &Text) -> Failure
 }
 
 /// Runs a thin script: opens its table, writes the answer and closes the table.
-pub fn run_query<F: Files, K: Sink>(alloc: Global, script: &Script, files: &mut F, sink: &mut K) -> Result<(), Failure>
+pub fn run_query<F: Files, K: Sink>(
+    alloc: Global,
+    script: &Script,
+    files: &mut F,
+    sink: &mut K,
+) -> Result<(), Failure>
     requires columns { list_all thin.is_column script.now.columns ≡ true }
     requires declared { is_among (thin.names_of script.now.columns) script.now.selected ≡ true }
     requires few { length script.now.columns ≤ 256 }

@@ -105,7 +105,11 @@ fn name(bytes: &[u8]) -> Result<(&[u8], &[u8]), ThinRefused>
     ensures { IfOk result (λ found. (bytes.now ≡ found.0.now ++ found.1.now) × (is_name found.0.now ≡ true)) }
 {
     let (word, rest) = bytes.split_at(letter_count(bytes));
-    if is_name(word) { Ok((word, rest)) } else { Err(ThinRefused::NoScript) }
+    if is_name(word) {
+        Ok((word, rest))
+    } else {
+        Err(ThinRefused::NoScript)
+    }
 }
 
 /// A kind and what follows it.
@@ -205,7 +209,11 @@ fn path(bytes: &[u8]) -> Result<(&[u8], &[u8]), ThinRefused>
     ensures { IfOk result (λ found. (bytes.now ≡ found.0.now ++ found.1.now) × (spec.is_path found.0.now ≡ true)) }
 {
     let (path, rest) = bytes.split_at(path_length(bytes));
-    if names_no_folder(path) { Ok((path, rest)) } else { Err(ThinRefused::NoScript) }
+    if names_no_folder(path) {
+        Ok((path, rest))
+    } else {
+        Err(ThinRefused::NoScript)
+    }
 }
 
 /// The first statement's parts and what follows it.
@@ -269,7 +277,11 @@ fn read_selection<'a>(bytes: &'a [u8], table: &[u8]) -> Result<&'a [u8], ThinRef
     let (selected, rest) = name(rest)?;
     let rest = after(rest, b" FROM ")?;
     let rest = after(rest, table)?;
-    if is_ending(rest) { Ok(selected) } else { Err(ThinRefused::NoScript) }
+    if is_ending(rest) {
+        Ok(selected)
+    } else {
+        Err(ThinRefused::NoScript)
+    }
 }
 
 /// Reads a thin script.

@@ -25,7 +25,7 @@ pub returns-in-Ok-write_all-clause-last : goal.returns-in-Ok-write_all-clause-la
 returns-in-Ok-write_all-clause-last g c items before w is =
     let written = rw (c.as_slice.ensures, c.in-Ok-rows_text.ensures) at (c.in-Ok-write_all.ensures.ok _ w.written) in
     wrote_last c.args.column items before _ _ _ _ w c.in-Ok.batch.rows (c.in-Ok.ensures.gives w.rest w.left_is)
-      (λ full. eqb-false _ _ (ok_same _ _ is) (c.rows.ensures.rows ∙ full)) written
+    (λ full. eqb-false _ _ (ok_same _ _ is) (c.rows.ensures.rows ∙ full)) written
 
 pub returns-clause-part : goal.returns-clause-part
 returns-clause-part g c items before w =

@@ -9,7 +9,7 @@ loop-next-preserved c =
     let items = rw good at c.push-in-Ok.ensures.items in
     record {
       text = rw items (text_after c.args.bytes.now c.in-Ok.next.now c.in_ok-more.left.now c.loop-next.columns.items c.in_ok-more.more c.loop-next.rest.now
-        c.loop-next.invariant.text c.loop-next.invariant.some c.in-Ok.ensures c.in_ok-more.ensures.text);
+          c.loop-next.invariant.text c.loop-next.invariant.some c.in-Ok.ensures c.in_ok-more.ensures.text);
       columns = rw items (all_columns c.loop-next.columns.items c.in_ok-more.more c.loop-next.invariant.columns c.in_ok-more.ensures.column);
       some = search rules;
       few = search rules;

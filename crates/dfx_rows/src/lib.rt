@@ -1,0 +1,5 @@
+//! The worked examples of the command, run over files in memory.
+#![tactic(auto)]
+
+#[cfg(test)]
+mod tests;

@@ -1,0 +1,329 @@
+use dfx_outside::{MemFiles, MemSink};
+use dfx_top::command_here;
+use dfx_value::{Bytes, Text};
+use std::alloc::Global;
+use std::process::Abort;
+use std::test::Fail;
+
+/// The declaration that most examples use, and one space.
+const T: &str = "CREATE EXTERNAL TABLE t (a BIGINT, b VARCHAR) STORED AS CSV LOCATION 't.csv'; ";
+
+/// A command, and what it must leave.
+#[derive(Clone, Copy)]
+struct Case {
+    shows: &'static str,
+    words: &'static [&'static str],
+    /// What follows the declaration in the script `f`; none leaves the file out.
+    query: Option<&'static str>,
+    /// The bytes of `t.csv`; none leaves the file out.
+    table: Option<&'static [u8]>,
+    /// The reads of `t.csv` that fail, and the writes of the answer.
+    failing_reads: &'static [u32],
+    failing_writes: &'static [u32],
+    status: u8,
+    sink: &'static str,
+    err: &'static str,
+}
+
+const PLAIN: Case = Case {
+    shows: "the first column of two rows",
+    words: &["query", "f"],
+    query: Some("SELECT a FROM t"),
+    table: Some(b"a,b\n1,x\n2,\n"),
+    failing_reads: &[],
+    failing_writes: &[],
+    status: 0,
+    sink: "a\n1\n2\n",
+    err: "",
+};
+
+fn text(alloc: Global, from: &str) -> Result<Text, Fail> {
+    Ok(Text::from_string(String::from_str(alloc, from)?))
+}
+
+fn bytes(alloc: Global, from: &[u8]) -> Result<Bytes, Fail> {
+    Ok(Bytes::from_vec(Vec::from_slice(alloc, from)?))
+}
+
+fn words_of(alloc: Global, case: &Case) -> Result<Vec<Text>, Fail> {
+    let mut words = Vec::new(alloc);
+    for word in case.words {
+        words.push(text(alloc, word)?)?;
+    }
+    Ok(words)
+}
+
+fn files_of(alloc: Global, case: &Case) -> Result<MemFiles, Fail> {
+    let mut files = Vec::new(alloc);
+    if let Some(query) = case.query {
+        let mut script = String::from_str(alloc, T)?;
+        script.push_str(query)?;
+        files.push((text(alloc, "f")?, bytes(alloc, script.as_str().as_bytes())?))?;
+    }
+    if let Some(table) = case.table {
+        files.push((text(alloc, "t.csv")?, bytes(alloc, table)?))?;
+    }
+    let mut failing = Vec::new(alloc);
+    for read in case.failing_reads {
+        failing.push((text(alloc, "t.csv")?, *read))?;
+    }
+    Ok(MemFiles::new(alloc, files, failing))
+}
+
+fn check(rt: &impl Abort, alloc: Global, case: &Case) -> Result<(), Fail> {
+    let shows = case.shows;
+    let words = words_of(alloc, case)?;
+    let files = files_of(alloc, case)?;
+    let sink = MemSink::new(alloc, Vec::from_slice(alloc, case.failing_writes)?);
+    let err = MemSink::new(alloc, Vec::new(alloc));
+    let finished = command_here(alloc, &words, files, sink, err);
+    assert_eq!(rt; finished.status, case.status, "status: {shows}");
+    assert!(rt;
+        finished.sink.bytes() == case.sink.as_bytes(),
+        "sink: {shows}"
+    );
+    assert!(rt;
+        finished.err.bytes() == case.err.as_bytes(),
+        "line: {shows}"
+    );
+    assert_eq!(rt;
+        finished.failure.is_none(),
+        case.status == 0,
+        "failure: {shows}"
+    );
+    let reads_fail = !case.failing_reads.is_empty();
+    assert_eq!(rt;
+        finished.files.faults() > 0,
+        reads_fail,
+        "closed files hand their faults on: {shows}"
+    );
+    Ok(())
+}
+
+#[test]
+fn answers(rt: HostRuntime) -> Result<(), Fail> {
+    let cases = [
+        PLAIN,
+        Case {
+            shows: "the second column; NULL is an empty field",
+            query: Some("SELECT b FROM t"),
+            sink: "b\nx\n\"\"\n",
+            ..PLAIN
+        },
+        Case {
+            shows: "a line feed between the statements, a semicolon and a line feed at the end",
+            query: Some("SELECT a FROM t;\n"),
+            ..PLAIN
+        },
+        Case {
+            shows: "a file without any record is an empty table",
+            table: Some(b""),
+            sink: "a\n",
+            ..PLAIN
+        },
+        Case {
+            shows: "the header's names aren't compared",
+            table: Some(b"x,y\n3,z\n"),
+            sink: "a\n3\n",
+            ..PLAIN
+        },
+        Case {
+            shows: "quotes come where a field calls for them",
+            query: Some("SELECT b FROM t"),
+            table: Some(b"a,b\n1,\"x,\"\"y\"\"\"\n"),
+            sink: "b\n\"x,\"\"y\"\"\"\n",
+            ..PLAIN
+        },
+        Case {
+            shows: "a number is printed without its sign and zeros",
+            table: Some(b"a,b\n+007,x\n-0,y\n"),
+            sink: "a\n7\n0\n",
+            ..PLAIN
+        },
+    ];
+    for case in &cases {
+        check(&rt, rt.alloc(), case)?;
+    }
+    Ok(())
+}
+
+#[test]
+fn refusals(rt: HostRuntime) -> Result<(), Fail> {
+    let cases = [
+        Case {
+            shows: "one word",
+            words: &["query"],
+            status: 2,
+            sink: "",
+            err: "dfx: words refused\n",
+            ..PLAIN
+        },
+        Case {
+            shows: "an option",
+            words: &["query", "-f"],
+            status: 2,
+            sink: "",
+            err: "dfx: words refused\n",
+            ..PLAIN
+        },
+        Case {
+            shows: "an empty word",
+            words: &["query", ""],
+            status: 2,
+            sink: "",
+            err: "dfx: words refused\n",
+            ..PLAIN
+        },
+        Case {
+            shows: "three words",
+            words: &["query", "f", "g"],
+            status: 2,
+            sink: "",
+            err: "dfx: words refused\n",
+            ..PLAIN
+        },
+        Case {
+            shows: "another request",
+            words: &["explain", "f"],
+            status: 2,
+            sink: "",
+            err: "dfx: words refused\n",
+            ..PLAIN
+        },
+        Case {
+            shows: "no script file",
+            query: None,
+            status: 4,
+            sink: "",
+            err: "dfx: file f: missing\n",
+            ..PLAIN
+        },
+        Case {
+            shows: "a name that isn't declared",
+            query: Some("SELECT c FROM t"),
+            status: 3,
+            sink: "",
+            err: "dfx: script refused\n",
+            ..PLAIN
+        },
+        Case {
+            shows: "a reserved word",
+            query: Some("SELECT from FROM t"),
+            status: 3,
+            sink: "",
+            err: "dfx: script refused\n",
+            ..PLAIN
+        },
+        Case {
+            shows: "another table",
+            query: Some("SELECT a FROM u"),
+            status: 3,
+            sink: "",
+            err: "dfx: script refused\n",
+            ..PLAIN
+        },
+        Case {
+            shows: "two spaces",
+            query: Some("SELECT  a FROM t"),
+            status: 3,
+            sink: "",
+            err: "dfx: script refused\n",
+            ..PLAIN
+        },
+        Case {
+            shows: "words after the end",
+            query: Some("SELECT a FROM t; "),
+            status: 3,
+            sink: "",
+            err: "dfx: script refused\n",
+            ..PLAIN
+        },
+        Case {
+            shows: "the script is read before the table is looked for",
+            query: Some("SELECT c FROM t"),
+            table: None,
+            status: 3,
+            sink: "",
+            err: "dfx: script refused\n",
+            ..PLAIN
+        },
+        Case {
+            shows: "no table file",
+            table: None,
+            status: 4,
+            sink: "",
+            err: "dfx: file t.csv: missing\n",
+            ..PLAIN
+        },
+    ];
+    for case in &cases {
+        check(&rt, rt.alloc(), case)?;
+    }
+    Ok(())
+}
+
+#[test]
+fn failures_in_the_run(rt: HostRuntime) -> Result<(), Fail> {
+    let cases = [
+        Case {
+            shows: "a field that is no number: the rows of its batch aren't written",
+            table: Some(b"a,b\n1,x\nz,y\n"),
+            status: 4,
+            sink: "a\n",
+            err: "dfx: file t.csv: csv refused\n",
+            ..PLAIN
+        },
+        Case {
+            shows: "a header of another width",
+            table: Some(b"a\n1\n"),
+            status: 4,
+            sink: "a\n",
+            err: "dfx: file t.csv: csv refused\n",
+            ..PLAIN
+        },
+        Case {
+            shows: "a record of another width",
+            table: Some(b"a,b\n1\n"),
+            status: 4,
+            sink: "a\n",
+            err: "dfx: file t.csv: csv refused\n",
+            ..PLAIN
+        },
+        Case {
+            shows: "bytes that aren't UTF-8",
+            table: Some(b"a,b\n1,\xff\n"),
+            status: 4,
+            sink: "a\n",
+            err: "dfx: file t.csv: csv refused\n",
+            ..PLAIN
+        },
+        Case {
+            shows: "the first read fails after the header was written",
+            failing_reads: &[1],
+            status: 5,
+            sink: "a\n",
+            err: "dfx: read fault\n",
+            ..PLAIN
+        },
+        Case {
+            shows: "the first write fails",
+            failing_writes: &[1],
+            status: 6,
+            sink: "",
+            err: "dfx: write fault\n",
+            ..PLAIN
+        },
+        Case {
+            shows: "the second write fails",
+            failing_writes: &[2],
+            status: 6,
+            sink: "a\n",
+            err: "dfx: write fault\n",
+            ..PLAIN
+        },
+    ];
+    for case in &cases {
+        check(&rt, rt.alloc(), case)?;
+    }
+    Ok(())
+}
