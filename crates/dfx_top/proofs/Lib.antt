@@ -1,3 +1,5 @@
 pub mod ThinSteps
 pub mod FaultSteps
 pub mod RunSteps
+pub mod QuerySteps
+pub mod CommandSteps

@@ -1,5 +1,5 @@
 -- Rows of a table, a batch more.
-use Rattle.std.proofs.Common.{◌≡◌, ◌≢◌, refl, ℕ, suc, ◌+◌, ◌-◌, ◌%◌, ◌≤◌, ◌<◌, true, List, [], ◌∷◌, ◌++◌, length, map, take, drop, Option, Some, None, Ok, Err, ap, sym, ◌∙◌, arith, append_assoc, length-append, min}
+use Rattle.std.proofs.Common.{◌≡◌, ◌≢◌, refl, ℕ, suc, ◌+◌, ◌-◌, ◌%◌, ◌≤◌, ◌<◌, true, List, [], ◌∷◌, ◌++◌, length, map, take, drop, Option, Some, None, Bool, Result, Ok, Err, ap, sym, ◌∙◌, arith, append_assoc, length-append, min}
 use Rattle.std.proofs.Math.Seq.{take-append-add, take-length}
 use Rattle.std.proofs.lemmas.List.{take_all, take-append-drop, append-nil, map-append, length-take}
 use Rattle.dfx_outside.specs.Bytes.{EndsInFront}
@@ -8,10 +8,14 @@ use Rattle.csv_source.specs.CsvItems.{Item, is_bad}
 use Rattle.csv_source.specs.Scans.{GivesRows, IsRefused}
 use Rattle.csv_source.specs.declared.refused.CsvRefused.{CsvRefused}
 use Rattle.csv_source.specs.declared.refused.CsvRefused.TheVariants as csv
-use Rattle.csv_source.proofs.ItemSteps.{length-oks}
 use Rattle.result_text.specs.AnswerText.{row_line, row_lines, picked}
 use Rattle.dfx_top.specs.Runs.{batch_rows, column_lines, Wrote, WroteAll, WroteBefore, WrotePart, of_scan}
+use Rattle.dfx_top.specs.declared.answer.RunRefused.{RunRefused}
 use Rattle.dfx_top.specs.declared.answer.RunRefused.TheVariants as refused
+
+length-oks : (rows : List (List Cell)) → length (map {B = Item} Ok rows) ≡ length rows
+length-oks [] = refl
+length-oks (r ∷ rs) = ap suc (length-oks rs)
 
 lines-append : (xs ys : List (List Cell)) → row_lines (xs ++ ys) ≡ row_lines xs ++ row_lines ys
 lines-append [] ys = refl
@@ -50,10 +54,10 @@ pub wrote_last : (column : ℕ) (items : List Item) (before : List ℕ) (left mo
     → GivesRows batch_rows w.rest batch more → length batch ≢ batch_rows → now ≡ Some ((before ++ column_lines column w.rows) ++ column_lines column batch) → WroteAll column items before now
 wrote_last column items before left more told now w batch gives short e =
     let count : min batch_rows (length w.rest) ≡ length batch = sym (length-take batch_rows w.rest) ∙ ap length (sym gives.next) ∙ length-oks batch in
-    let few : length w.rest ≤ batch_rows = ? in
+    let few : length w.rest ≤ batch_rows = omega arith in
     record {
       rows = w.rows ++ batch;
-      is = ?;
+      is = w.is ∙ ap (λ (t : List Item). map Ok w.rows ++ t) (sym (take_all batch_rows w.rest few) ∙ sym gives.next) ∙ sym (map-append Ok w.rows batch);
       written = written_more column before w.rows batch now e;
     }
 
@@ -63,7 +67,7 @@ wrote_before column items before left told w e r = record {
   rows = w.rows;
   others = r.rows;
   refusal = e;
-  is = ?;
+  is = w.is ∙ ap (λ (t : List Item). map Ok w.rows ++ t) r.is ∙ sym (append_assoc (map Ok w.rows) (map Ok r.rows) (Err e ∷ []));
   whole = w.whole;
   few = r.few;
   written = w.written;
@@ -89,5 +93,20 @@ wrote_some column items before left more told now w batch gives e = record {
         (sym (ap (take (length (column_lines column w.rows) + e.count)) (column_lines-append column w.rows batch) ∙ take-append-add (column_lines column w.rows) (column_lines column batch) e.count)));
   };
 }
+
+-- the run calls a file bad where the scan refuses it
+pub bad_of : (r : CsvRefused) → of_scan r ≡ refused.Bad → is_bad r ≡ true
+bad_of (csv.Header n) e = refl
+bad_of (csv.Fields n) e = refl
+bad_of (csv.NotUtf8 n) e = refl
+bad_of (csv.Value n c) e = refl
+bad_of csv.Read e = cc
+bad_of csv.NoMemory e = cc
+
+pub ok_same : (b d : Bool) → ◌≡◌ {A = Result Bool RunRefused} (Ok b) (Ok d) → b ≡ d
+ok_same b d e = (cc)
+
+pub err_same : (A : Type 0) (e f : RunRefused) → ◌≡◌ {A = Result A RunRefused} (Err e) (Err f) → e ≡ f
+err_same A e f h = (cc)
 
 pub ruleset run_steps = (wrote_none)

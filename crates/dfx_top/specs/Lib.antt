@@ -4,3 +4,4 @@ pub mod Failures
 pub mod Thin
 pub mod Outcomes
 pub mod Runs
+pub mod Answers

@@ -28,7 +28,7 @@ pub enum RunRefused {
 }
 
 /// What a refused scan means for the run.
-fn scan_refused(refused: CsvRefused) -> RunRefused
+pub fn scan_refused(refused: CsvRefused) -> RunRefused
     ensures { result ≡ of_scan refused }
 {
     match refused {
@@ -40,7 +40,7 @@ fn scan_refused(refused: CsvRefused) -> RunRefused
 }
 
 /// What a refused write means for the run.
-fn sink_refused(refused: OutsideRefused) -> RunRefused
+pub fn sink_refused(refused: OutsideRefused) -> RunRefused
     ensures { result ≡ of_sink refused }
 {
     match refused {

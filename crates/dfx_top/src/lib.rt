@@ -6,8 +6,9 @@ mod command;
 mod failure;
 mod files;
 mod names;
+mod query;
 mod thin;
 mod words;
 
-//pub use command::{Finished, command_here};
-//pub use failure::{Failure, fault_text};
+pub use command::{Finished, command_here};
+pub use failure::{Failure, fault_text};

@@ -1,0 +1,11 @@
+//! The frame of a run as a machine over the entries of its journal: its gates, its pool, and where each task is.
+#![tactic(auto)]
+
+mod law;
+mod place;
+
+pub use law::{chain_law, frame_law, lawful_opening, lawful_step};
+pub use place::Place;
+
+#[cfg(test)]
+mod tests;

@@ -1,0 +1,10 @@
+use crate::{chain_law, frame_law, lawful_opening, lawful_step};
+
+// The laws at a type of batches: calls of them do nothing.
+#[test]
+fn laws_hold_at_a_type() {
+    frame_law::<u32>();
+    chain_law::<u32>();
+    lawful_opening::<u32>();
+    lawful_step::<u32>();
+}

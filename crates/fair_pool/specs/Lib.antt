@@ -1,0 +1,3 @@
+pub mod Share
+pub mod Tally
+pub mod Refusal

@@ -1,0 +1,5 @@
+pub mod Gate
+pub mod Tasks
+pub mod Queue
+pub mod Group
+pub mod Answers

@@ -1,0 +1,4 @@
+pub mod Boundaries
+pub mod Each
+pub mod TextLemmas
+pub mod Turns

@@ -1,0 +1,17 @@
+//! Tokens of an SQL script.
+#![tactic(auto)]
+
+mod bytes;
+mod cut;
+mod lexer;
+pub mod refused;
+mod texts;
+pub mod token;
+
+pub use lexer::tokens;
+pub use refused::LexRefused;
+pub use texts::token_text;
+pub use token::{Token, TokenKind};
+
+#[cfg(test)]
+mod tests;

@@ -1,0 +1,14 @@
+pub mod Sums
+pub mod Places
+pub mod Slots
+pub mod Logs
+pub mod Journals
+pub mod Line
+pub mod Draws
+pub mod Looks
+pub mod Passes
+pub mod Parts
+pub mod Dealing
+pub mod Joining
+pub mod Settling
+pub mod Loans
