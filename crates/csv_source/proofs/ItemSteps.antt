@@ -100,6 +100,7 @@ never_read A (refused.NotUtf8 n) wanted h e = cc
 never_read A (refused.Value n c) wanted h e = cc
 
 pub ruleset item_steps = (gives_bad, number_fits, counts_after, items_none, items_after, items_refused)
+
 -- the rows so far and the items after them are as many as there were
 pub falls_after : (rows : List (List Cell)) (now start : Option (List Item)) (recs : Option (List Fields)) (kinds : List Kind) (n : ℕ)
     → now ≡ option_map (items_from kinds n) recs → Counts recs n → option_map (rows_then rows) now ≡ start → length rows + left_count now ≤ left_count start

@@ -55,10 +55,10 @@ enough (suc n) zero s xs h k = absurd (omega arith)
 enough (suc n) (suc m) s xs h k =
     same_next (next_record default_config s [] [] xs) (records_from default_config n) (records_from default_config m)
     (λ (p : Read) (e : next_record default_config s [] [] xs ≡ Some p).
-        elim (shorter s [] [] xs p e) [
-          | inl less ↦ enough n m p.1 p.2 (omega arith) (omega arith)
-          | inr end ↦ rw (end.0, end.1) (none_at_end n ∙ sym (none_at_end m))
-        ])
+    elim (shorter s [] [] xs p e) [
+      | inl less ↦ enough n m p.1 p.2 (omega arith) (omega arith)
+      | inr end ↦ rw (end.0, end.1) (none_at_end n ∙ sym (none_at_end m))
+    ])
 
 -- the last record that is read
 records_none : (s : State) (xs : List ℕ) → next_record default_config s [] [] xs ≡ None → records_at s xs ≡ []

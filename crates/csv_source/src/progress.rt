@@ -75,7 +75,11 @@ fn open<R: Read + Drop>(alloc: Global, kinds: &[Kind], bytes: R) -> Result<Progr
 
 #[tactic(auto, using(crate::proofs::LeftSteps::left_few))]
 /// Reads the whole source and takes the header.
-pub fn begin<S: Source>(alloc: Global, source: &mut S, kinds: &[Kind]) -> Result<Progress<Cursor<Vec<u8>>>, CsvRefused>
+pub fn begin<S: Source>(
+    alloc: Global,
+    source: &mut S,
+    kinds: &[Kind],
+) -> Result<Progress<Cursor<Vec<u8>>>, CsvRefused>
     ensures begun { IfOk result (λ progress. is_begun progress ≡ true) }
     ensures sound { IfOk result (λ progress. IsSound (cursor_remaining (λ v. Some v.items)) progress) }
     ensures left { (all : List ℕ) → S.told source.old ≡ Some all → IfOk result (λ progress. left_of (cursor_remaining (λ v. Some v.items)) None kinds.now progress ≡ Some (csv_items all kinds.now)) }
@@ -94,7 +98,12 @@ pub fn begin<S: Source>(alloc: Global, source: &mut S, kinds: &[Kind]) -> Result
 
 #[tactic(auto, using(crate::proofs::LeftSteps::left_steps))]
 /// The next rows of a scan that has begun.
-pub fn advance<R: Read + Drop>(alloc: Global, kinds: &[Kind], progress: Progress<R>, rows: u32) -> Result<Advanced<R>, CsvRefused>
+pub fn advance<R: Read + Drop>(
+    alloc: Global,
+    kinds: &[Kind],
+    progress: Progress<R>,
+    rows: u32,
+) -> Result<Advanced<R>, CsvRefused>
     requires kinds { are_kinds kinds.now ≡ true }
     requires few { length kinds.now < 2 ^ 32 }
     requires begun { is_begun progress ≡ true }

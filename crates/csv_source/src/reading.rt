@@ -35,7 +35,12 @@ pub struct Given {
 
 /// Puts the row of the next record at the end of the builder's; false where there is no record left.
 #[tactic(auto, using(crate::proofs::ItemSteps::item_steps))]
-fn push_next<R: Read + Drop>(alloc: Global, kinds: &[Kind], reading: &mut Reading<R>, builder: &mut Builder) -> Result<bool, CsvRefused>
+fn push_next<R: Read + Drop>(
+    alloc: Global,
+    kinds: &[Kind],
+    reading: &mut Reading<R>,
+    builder: &mut Builder,
+) -> Result<bool, CsvRefused>
     requires kinds { are_kinds kinds.now ≡ true }
     requires few { length kinds.now < 2 ^ 32 }
     requires same { builder.old.kinds ≡ kinds.now }
@@ -68,7 +73,12 @@ fn push_next<R: Read + Drop>(alloc: Global, kinds: &[Kind], reading: &mut Readin
 
 /// The next rows, so many or all that there are.
 #[tactic(auto, using(crate::proofs::ItemSteps::batch_steps))]
-pub fn read_rows<R: Read + Drop>(alloc: Global, kinds: &[Kind], reading: &mut Reading<R>, rows: u32) -> Result<Given, CsvRefused>
+pub fn read_rows<R: Read + Drop>(
+    alloc: Global,
+    kinds: &[Kind],
+    reading: &mut Reading<R>,
+    rows: u32,
+) -> Result<Given, CsvRefused>
     requires kinds { are_kinds kinds.now ≡ true }
     requires few { length kinds.now < 2 ^ 32 }
     requires set { IsSet reading.old.reader }

@@ -14,18 +14,18 @@ returns-in_err-row-clause-refused g c e is bad =
     let is_refusal : is_bad c.in_err-row.field-0.0 ≡ true = rw same bad in
     let refuses = gives_bad _ c.in_err-row.field-0.0 _ c.in_err-row.ensures.gives is_refusal in
     rw (← same) (
-      items_refused (records_left g.R.Read.remaining c.args.reading.now.reader) (records_left g.R.Read.remaining c.next_record.new.reader)
-        c.args.kinds.now c.args.reading.now.number (fields_of c.next_record.new.record) c.in_err-row.field-0.0
-        (c.in_ok-next_record.ensures.some c.requires.set (ap Ok found)) c.requires.counts refuses
+    items_refused (records_left g.R.Read.remaining c.args.reading.now.reader) (records_left g.R.Read.remaining c.next_record.new.reader)
+    c.args.kinds.now c.args.reading.now.number (fields_of c.next_record.new.record) c.in_err-row.field-0.0
+    (c.in_ok-next_record.ensures.some c.requires.set (ap Ok found)) c.requires.counts refuses
     )
 
 pub returns-clause-takes : goal.returns-clause-takes
 returns-clause-takes g c is =
     let found : c.in_ok-next_record.field-0 ≡ true = search rules in
     rw c.in-Ok.ensures.ok (
-      items_after (records_left g.R.Read.remaining c.args.reading.now.reader) (records_left g.R.Read.remaining c.next_record.new.reader)
-        c.args.kinds.now c.args.reading.now.number (fields_of c.next_record.new.record) c.args.builder.now.rows c.in_ok-row.row
-        (c.in_ok-next_record.ensures.some c.requires.set (ap Ok found)) c.requires.counts c.in_ok-row.ensures.gives
+    items_after (records_left g.R.Read.remaining c.args.reading.now.reader) (records_left g.R.Read.remaining c.next_record.new.reader)
+    c.args.kinds.now c.args.reading.now.number (fields_of c.next_record.new.record) c.args.builder.now.rows c.in_ok-row.row
+    (c.in_ok-next_record.ensures.some c.requires.set (ap Ok found)) c.requires.counts c.in_ok-row.ensures.gives
     )
 
 pub returns-in_err-row-clause-read : goal.returns-in_err-row-clause-read
