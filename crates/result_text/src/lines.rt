@@ -12,7 +12,10 @@ use dfx_value::{Batch, NoMemory};
 use std::io::Write;
 
 /// Writes a record as a line.
-pub fn push_line<W: Write + Drop>(writer: &mut Writer<W>, record: &ByteRecord) -> Result<(), NoMemory>
+pub fn push_line<W: Write + Drop>(
+    writer: &mut Writer<W>,
+    record: &ByteRecord,
+) -> Result<(), NoMemory>
     ensures { (text : List ℕ) → Stands W.contents writer.old text
         → OnOk result (Stands W.contents writer.new (text ++ row_text default_writer (fields_of record.now))) }
 {
@@ -23,7 +26,13 @@ pub fn push_line<W: Write + Drop>(writer: &mut Writer<W>, record: &ByteRecord) -
 }
 
 /// Puts the printed text of a cell into the record as one more field. `scratch` is kept for its room.
-fn push_cell(record: &mut ByteRecord, scratch: &mut String, batch: &Batch, at: u32, column: u32) -> Result<(), NoMemory>
+fn push_cell(
+    record: &mut ByteRecord,
+    scratch: &mut String,
+    batch: &Batch,
+    at: u32,
+    column: u32,
+) -> Result<(), NoMemory>
     requires row { at < length batch.now.rows }
     requires column { column < length batch.now.kinds }
     requires whole { partial_of record.old ≡ [] }
@@ -37,7 +46,13 @@ fn push_cell(record: &mut ByteRecord, scratch: &mut String, batch: &Batch, at: u
 }
 
 /// Makes a record of the printed texts of some cells of a row.
-pub fn set_record(record: &mut ByteRecord, scratch: &mut String, batch: &Batch, at: u32, columns: &[u32]) -> Result<(), NoMemory>
+pub fn set_record(
+    record: &mut ByteRecord,
+    scratch: &mut String,
+    batch: &Batch,
+    at: u32,
+    columns: &[u32],
+) -> Result<(), NoMemory>
     requires row { at < length batch.now.rows }
     requires columns { All (λ c. c < length batch.now.kinds) columns.now }
     ensures { OnOk result (fields_of record.new ≡ map printed (picked columns.now (slice_index_or batch.now.rows at []))) }
