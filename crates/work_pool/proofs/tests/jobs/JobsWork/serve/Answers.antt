@@ -1,0 +1,12 @@
+use Rattle.std.proofs.Common.{ap, ◌∙◌, refl}
+use Rattle.turn_cell.specs.Loans.{loan_of}
+use Rattle.turn_cell.proofs.Loans.{loan_after}
+use Rattle.work_pool.proofs.tests.jobs.JobsWork.serve.Goals as goal
+
+pub returns-in-Ok-clause-answer : goal.returns-in-Ok-clause-answer
+returns-in-Ok-clause-answer c =
+    let e = ap (loan_of c.args.worker) c.in-Ok.ensures.items ∙ loan_after c.args.worker c.args.self.now.log.items _ refl in
+    (refl, e ∙ Rattle.std.proofs.Common.sym c.requires.fits, e)
+
+pub returns-in-Ok-push-clause-answer : goal.returns-in-Ok-push-clause-answer
+returns-in-Ok-push-clause-answer c = ap (loan_of c.args.worker) c.in-Ok-push.ensures.items ∙ loan_after c.args.worker c.args.self.now.log.items _ refl
