@@ -5,7 +5,8 @@
 #
 #   bench/first_column.sh [ROWS [RUNS]]        2,500,000 rows and 3 runs of each, which alternate, where nothing is said
 #
-# It prints each run, and then the medians with their ratio to dfx. Files stay in bench/out/.
+# It prints each run, and then the medians of seconds (with their ratio to dfx) and of processor seconds, and the highest peak of
+# memory. Files stay in bench/out/.
 set -euo pipefail
 rows=${1:-2500000}
 runs=${2:-3}
@@ -59,40 +60,42 @@ CREATE TABLE sales (id INTEGER, qty INTEGER, name TEXT, note TEXT);
 SELECT id FROM sales;
 SQLITE
 
-cat >peak.py <<'PEAK'
+cat >usage.py <<'USAGE'
 import resource, subprocess, sys
 ended = subprocess.run(sys.argv[2:])
+used = resource.getrusage(resource.RUSAGE_CHILDREN)
 with open(sys.argv[1], "w") as file:
-    print(resource.getrusage(resource.RUSAGE_CHILDREN).ru_maxrss, file=file)
+    print(used.ru_utime, used.ru_stime, used.ru_maxrss, file=file)
 sys.exit(ended.returncode)
-PEAK
+USAGE
 
 cat >table.py <<'TABLE'
 import os, statistics
 megabytes = os.path.getsize("sales.csv") / 1e6
 runs = {}
 for line in open("runs.txt"):
-    who, seconds, kilobytes = line.rsplit(" ", 2)
-    runs.setdefault(who, []).append((float(seconds), int(kilobytes)))
-medians = {who: (statistics.median(it[0] for it in all), max(it[1] for it in all)) for who, all in runs.items()}
-print(f"{'':12}{'seconds':>9}{'MB/s':>8}{'peak MB':>9}{'times dfx':>11}")
-for who, (seconds, kilobytes) in medians.items():
-    print(f"{who:12}{seconds:9.3f}{megabytes / seconds:8.0f}{kilobytes / 1000:9.0f}{seconds / medians['dfx'][0]:11.2f}")
+    who, *numbers = line.rsplit(" ", 3)
+    runs.setdefault(who, []).append([float(it) for it in numbers])
+rows = {who: [statistics.median(column) for column in list(zip(*all))[:2]] + [max(it[2] for it in all)] for who, all in runs.items()}
+print(f"{'':12}{'seconds':>9}{'times dfx':>11}{'MB/s':>8}{'processor s':>13}{'peak MB':>9}")
+for who, (seconds, processor, kilobytes) in rows.items():
+    ratio, speed = seconds / rows["dfx"][0], megabytes / seconds
+    print(f"{who:12}{seconds:9.3f}{ratio:11.2f}{speed:8.0f}{processor:13.2f}{kilobytes / 1000:9.0f}")
 TABLE
 
-# Runs the words from the third on into the file that the second names, and keeps how long that took and the memory at its peak.
+# Runs the words from the third on into the file that the second names, and keeps what that took of time and memory.
 measure() {
     local who=$1 answer=$2 before after
     shift 2
     before=$(date +%s%N)
     if [ -x /usr/bin/time ]; then
-        /usr/bin/time -o peak.txt -f %M "$@" >"$answer"
+        /usr/bin/time -o usage.txt -f '%U %S %M' "$@" >"$answer"
     else
-        python3 peak.py peak.txt "$@" >"$answer"
+        python3 usage.py usage.txt "$@" >"$answer"
     fi
     after=$(date +%s%N)
-    awk -v who="$who" -v ns=$((after - before)) -v peak="$(cat peak.txt)" \
-        'BEGIN { printf "%s %.3f %d\n", who, ns / 1e9, peak }' | tee -a runs.txt
+    awk -v who="$who" -v ns=$((after - before)) '{ printf "%s %.3f %.2f %d\n", who, ns / 1e9, $1 + $2, $3 }' usage.txt |
+        tee -a runs.txt
 }
 
 same() {
@@ -100,7 +103,7 @@ same() {
 }
 
 python3 make.py "$rows"
-echo "sales.csv: $(wc -c <sales.csv) bytes, $rows rows; $(nproc) processors; who, seconds, peak KB:"
+echo "sales.csv: $(wc -c <sales.csv) bytes, $rows rows; $(nproc) processors; who, seconds, processor seconds, peak KB:"
 rm -f runs.txt
 for _ in $(seq "$runs"); do
     measure dfx answer.dfx "$program" query sales.sql
