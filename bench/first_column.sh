@@ -37,7 +37,7 @@ CREATE EXTERNAL TABLE sales (id BIGINT, qty BIGINT, name VARCHAR, note VARCHAR) 
 SELECT id FROM sales;
 SCRIPT
 
-cat >select.py <<'SELECT'
+cat >column.py <<'SELECT'
 import csv, sys
 with open("sales.csv", encoding="utf-8", newline="") as file:
     records = csv.reader(file)
@@ -108,7 +108,7 @@ rm -f runs.txt
 for _ in $(seq "$runs"); do
     measure dfx answer.dfx "$program" query sales.sql
     measure "wc -l" lines.txt wc -l sales.csv
-    measure "python3 csv" answer.python python3 select.py
+    measure "python3 csv" answer.python python3 column.py
     same answer.python
     if command -v sqlite3 >/dev/null; then
         measure sqlite3 answer.sqlite sqlite3 :memory: ".read sqlite.sql"
