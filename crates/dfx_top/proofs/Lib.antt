@@ -1,4 +1,6 @@
 pub mod ThinSteps
+pub mod ExactSteps
+pub mod ExactColumns
 pub mod FaultSteps
 pub mod RunSteps
 pub mod QuerySteps
