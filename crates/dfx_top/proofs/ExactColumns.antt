@@ -1,5 +1,5 @@
 -- That no thin script is refused: its columns and statements.
-use Rattle.std.proofs.Common.{◌≡◌, ℕ, List, [], ◌∷◌, ◌++◌, length, drop, Bool, true, false, sym, ap, ◌∙◌, refl, subst, codes, ◌<◌, ◌≤◌, arith, append_assoc, length-append}
+use Rattle.std.proofs.Common.{◌≡◌, ℕ, List, [], ◌∷◌, ◌++◌, length, Bool, true, false, sym, ap, ◌∙◌, refl, subst, codes, ◌<◌, ◌≤◌, arith, append_assoc, length-append}
 use Rattle.std.proofs.lemmas.List.{append-nil}
 use Rattle.std.specs.List.{list_all}
 use Rattle.dfx_value.proofs.BatchLemmas.{left_of, right_of}

@@ -1,5 +1,5 @@
 -- That no thin script is refused: its words, names and paths.
-use Rattle.std.proofs.Common.{◌≡◌, ℕ, List, [], ◌∷◌, ◌++◌, length, take, drop, nat_eq, Bool, true, false, not, ◌&&◌, ◌==◌, if◌then◌else◌, sym, ap, ◌∙◌, refl, codes, ◌<◌, ◌+◌, arith, Result, Ok, Err, IsUtf8}
+use Rattle.std.proofs.Common.{◌≡◌, ℕ, List, [], ◌∷◌, ◌++◌, length, take, drop, nat_eq, Bool, true, false, if◌then◌else◌, sym, ap, ◌∙◌, refl, ◌<◌, arith, Result, Ok, Err, IsUtf8}
 use Rattle.std.proofs.Math.Seq.{take-append_seam, drop-append_seam}
 use Rattle.std.proofs.lemmas.Slice.Eq.{bytes_eq-Decides}
 use Rattle.std.proofs.lemmas.Bool.Decides.{nat_tests}
@@ -14,7 +14,7 @@ use Rattle.dfx_value.proofs.BatchLemmas.{left_of, right_of}
 use Rattle.dfx_value.specs.Text.{Holds}
 use Rattle.dfx_value.specs.declared.text.TextRefused.{TextRefused}
 use Rattle.dfx_value.specs.declared.text.TextRefused.TheVariants as text
-use Rattle.dfx_top.specs.Names.{is_name, is_among, are_letters, reserved}
+use Rattle.dfx_top.specs.Names.{is_name}
 use Rattle.dfx_top.specs.Exact.{Found, starts_letter, of_text}
 use Rattle.dfx_top.specs.declared.thin.ThinRefused.{ThinRefused}
 use Rattle.dfx_top.specs.declared.thin.ThinRefused.TheVariants as refused
@@ -40,10 +40,9 @@ count_all q (x ∷ xs) tail h e =
 pub split_count : (q : ℕ → Bool) (bytes front back n tail : List ℕ) (k : ℕ) → k ≡ prefix_len q bytes → front ≡ take k bytes → back ≡ drop k bytes
     → list_all q n ≡ true → prefix_len q tail ≡ 0 → bytes ≡ n ++ tail → (front ≡ n) × (back ≡ tail)
 split_count q bytes front back n tail k counts is_front is_back passes stops whole =
-    let count : k ≡ length n = counts ∙ ap (prefix_len q) whole ∙ count_all q n tail passes stops in
-    (
-        is_front ∙ ap (λ (j : ℕ). take j bytes) count ∙ ap (λ (x : List ℕ). take (length n) x) whole ∙ take-append_seam n tail,
-        is_back ∙ ap (λ (j : ℕ). drop j bytes) count ∙ ap (λ (x : List ℕ). drop (length n) x) whole ∙ drop-append_seam n tail
+    let count : k ≡ length n = counts ∙ ap (prefix_len q) whole ∙ count_all q n tail passes stops in (
+      is_front ∙ ap (λ (j : ℕ). take j bytes) count ∙ ap (λ (x : List ℕ). take (length n) x) whole ∙ take-append_seam n tail,
+      is_back ∙ ap (λ (j : ℕ). drop j bytes) count ∙ ap (λ (x : List ℕ). drop (length n) x) whole ∙ drop-append_seam n tail,
     )
 
 pick : (b c : Bool) → (if b then false else c) ≡ true → c ≡ true

@@ -1,6 +1,6 @@
 -- Meaning: what a command wrote, by how it ended. `all` are the contents of the files, `before` and `now` what the sink
 -- had taken at the call and at its end.
-use Rattle.std.specs.Prelude.{ℕ, ◌≡◌, ◌⊎◌, ◌<◌, ◌%◌, ◌++◌, ◌∷◌, [], Bool, List, map, Option, Some, None, Result, Ok, Err, nat_eq}
+use Rattle.std.specs.Prelude.{ℕ, ◌≡◌, ◌⊎◌, ◌++◌, ◌∷◌, [], List, map, Option, Some, None, Result, Ok, Err, nat_eq}
 use Rattle.std.specs.List.{position_from}
 use Rattle.std.specs.Cmp.Lexicographic.{pointwise}
 use Rattle.dfx_outside.specs.Bytes.{EndsInFront}
@@ -9,7 +9,7 @@ use Rattle.dfx_value.specs.declared.kind.Kind.{Kind}
 use Rattle.dfx_value.specs.declared.value.Value.{Value as Cell}
 use Rattle.csv_source.specs.CsvItems.{Item, csv_items}
 use Rattle.result_text.specs.AnswerText.{header_line, answer_text, picked}
-use Rattle.dfx_top.specs.Thin.{Script, Column, IsThin}
+use Rattle.dfx_top.specs.Thin.{Script, IsThin}
 use Rattle.dfx_top.specs.Words.{script_path}
 use Rattle.dfx_top.specs.Runs.{WroteAll, WroteBefore}
 use Rattle.dfx_top.specs.declared.failure.Failure.{Failure}

@@ -1,5 +1,5 @@
 -- Words: what a reader of a thin script finds.
-use Rattle.std.specs.Prelude.{ℕ, ◌≡◌, ◌++◌, ◌∷◌, Bool, true, false, List, [], Result, Ok, Err}
+use Rattle.std.specs.Prelude.{ℕ, ◌≡◌, ◌++◌, ◌∷◌, Bool, false, List, [], Result, Ok, Err}
 use Rattle.std.specs.Char.{is_ascii_lowercase}
 use Rattle.dfx_value.specs.declared.text.TextRefused.{TextRefused}
 use Rattle.dfx_value.specs.declared.text.TextRefused.TheVariants as text

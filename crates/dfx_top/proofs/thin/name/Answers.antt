@@ -10,5 +10,5 @@ returns-then-is_name-clause-exact c n tail name stops whole =
 pub returns-else-is_name-clause-exact : goal.returns-else-is_name-clause-exact
 returns-else-is_name-clause-exact c n tail name stops whole =
     let parts = split_name c.args.bytes.now c.split_at.result.0.now c.split_at.result.1.now n tail c.letter_count.result c.letter_count.ensures.exact c.split_at.ensures.front c.split_at.ensures.back
-        name stops whole in
+    name stops whole in
     both_ways is_name c.split_at.result.0.now n c.is_name.result c.if-is_name.false c.is_name.ensures parts.0 name

@@ -13,6 +13,6 @@ returns-then-names_no_folder-clause-exact c p tail is_path whole =
 pub returns-else-names_no_folder-clause-exact : goal.returns-else-names_no_folder-clause-exact
 returns-else-names_no_folder-clause-exact c p tail is_path whole =
     let parts = split_count (λ b. not (b == 39)) c.args.bytes.now c.split_at.result.0.now c.split_at.result.1.now p (39 ∷ tail) c.path_length.result c.path_length.ensures.exact
-        c.split_at.ensures.front c.split_at.ensures.back (left_of (list_all (λ b. not (b == 39)) p) (no_folder p) is_path) refl whole in
+    c.split_at.ensures.front c.split_at.ensures.back (left_of (list_all (λ b. not (b == 39)) p) (no_folder p) is_path) refl whole in
     both_ways no_folder c.split_at.result.0.now p c.names_no_folder.result c.if-names_no_folder.false c.names_no_folder.ensures parts.0
     (right_of (list_all (λ b. not (b == 39)) p) (no_folder p) is_path)

@@ -12,12 +12,12 @@ returns-then-not-are_distinct-clause-exact c s x =
     let q = c.in_ok-selected.ensures.exact s.selected (selects_at c.in_ok-table.field-0.rest.now x.rest c.in_ok-table.field-0.table.now s.table s.selected d.3 d.0 x.selects) in
     elim c.then-not-are_distinct.branch [
       | then-not-are_distinct-via-then-not-are_distinct w ↦ absurd (
-        column_ways (λ cs. are_distinct (names_of cs)) c.deref.result.now s.columns c.are_distinct.result w.if-not-are_distinct.true c.are_distinct.ensures (c.deref.ensures.value ∙ d.1) x.distinct
-        )
+          column_ways (λ cs. are_distinct (names_of cs)) c.deref.result.now s.columns c.are_distinct.result w.if-not-are_distinct.true c.are_distinct.ensures (c.deref.ensures.value ∙ d.1) x.distinct
+          )
       | then-not-are_distinct-via-else-not-are_distinct+then-not-is_declared w ↦ absurd (
-        column_ways (λ cs. is_among (names_of cs) c.in_ok-selected.selected.now) w.deref-else-not-are_distinct.result.now s.columns w.is_declared.result w.if-not-is_declared.true w.is_declared.ensures
-        (w.deref-else-not-are_distinct.ensures.value ∙ d.1) (ap (λ (n : List ℕ). is_among (names_of s.columns) n) q ∙ x.selected)
-        )
+          column_ways (λ cs. is_among (names_of cs) c.in_ok-selected.selected.now) w.deref-else-not-are_distinct.result.now s.columns w.is_declared.result w.if-not-is_declared.true w.is_declared.ensures
+          (w.deref-else-not-are_distinct.ensures.value ∙ d.1) (ap (λ (n : List ℕ). is_among (names_of s.columns) n) q ∙ x.selected)
+          )
     ]
 
 pub returns-clause-exact : goal.returns-clause-exact
