@@ -5,3 +5,4 @@ pub mod FaultSteps
 pub mod RunSteps
 pub mod QuerySteps
 pub mod CommandSteps
+pub mod CompleteSteps
