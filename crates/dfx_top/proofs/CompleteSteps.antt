@@ -1,12 +1,12 @@
 -- That a thin script is answered.
-use Rattle.std.proofs.Common.{◌≡◌, ◌⊎◌, refl, ℕ, List, [], ◌∷◌, ◌++◌, map, true, Option, Some, None, Result, Ok, Err, inl, inr, ap, sym, subst, ◌∙◌}
+use Rattle.std.proofs.Common.{◌≡◌, ◌⊎◌, refl, ℕ, List, [], ◌∷◌, ◌++◌, map, true, Option, Some, None, Result, Ok, Err, inr, ap, sym, subst, ◌∙◌}
 use Rattle.std.specs.List.{list_all}
 use Rattle.std.specs.Result.{is_ok}
 use Rattle.dfx_outside.specs.Contents.{Contents, content}
 use Rattle.dfx_value.proofs.BatchLemmas.{right_of}
 use Rattle.csv_source.specs.CsvItems.{Item, csv_items}
 use Rattle.csv_source.specs.declared.refused.CsvRefused.{CsvRefused}
-use Rattle.dfx_top.specs.Answers.{Ran, Reads, Ended, Stopped, NamesNone, kinds_of}
+use Rattle.dfx_top.specs.Answers.{Ran, Reads, Ended, Stopped, kinds_of}
 use Rattle.dfx_top.specs.Thin.{Script, IsThin}
 use Rattle.dfx_top.specs.Words.{script_path}
 use Rattle.dfx_top.specs.declared.failure.Failure.{Failure}
