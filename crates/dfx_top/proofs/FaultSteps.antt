@@ -1,5 +1,5 @@
 -- Counts of faults, handed from an object to its owner.
-use Rattle.std.proofs.Common.{◌≡◌, ℕ, zero, suc, ◌≤◌, ◌-◌, ◌^◌, min, List, Option, Some, None, arith}
+use Rattle.std.proofs.Common.{◌≡◌, ℕ, zero, suc, ◌≤◌, List, Option, Some, None, arith}
 use Rattle.dfx_outside.specs.Causes.{Rose, HandsOn}
 use Rattle.dfx_outside.specs.Contents.{Opens}
 

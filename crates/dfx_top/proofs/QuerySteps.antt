@@ -1,17 +1,15 @@
 -- The run of a thin script.
-use Rattle.std.proofs.Common.{◌≡◌, refl, ℕ, zero, suc, ◌+◌, ◌<◌, ◌≤◌, Bool, true, false, cond, List, [], ◌∷◌, ◌++◌, length, map, take, drop, get_or, Option, Some, None, Ok, Err, inl, inr, ap, sym, ◌∙◌, arith, append_assoc, nat_eq}
+use Rattle.std.proofs.Common.{◌≡◌, refl, ℕ, ◌+◌, true, List, [], ◌∷◌, ◌++◌, length, map, take, Option, Some, None, Err, inl, inr, ap, sym, ◌∙◌, append_assoc}
 use Rattle.std.proofs.lemmas.List.{append-nil}
-use Rattle.std.proofs.Math.Seq.{take-length, take-append-add}
+use Rattle.std.proofs.Math.Seq.{take-append-add}
 use Rattle.std.specs.List.{list_all}
-use Rattle.std.specs.Cmp.Lexicographic.{pointwise}
 use Rattle.dfx_outside.specs.Bytes.{EndsInFront}
 use Rattle.dfx_value.specs.Kinds.{is_kind, are_kinds}
 use Rattle.dfx_value.specs.declared.kind.Kind.{Kind}
 use Rattle.dfx_value.specs.declared.kind.Kind.TheVariants as kind
-use Rattle.dfx_value.specs.declared.value.Value.{Value as Cell}
 use Rattle.dfx_value.proofs.BatchLemmas.{both, left_of, right_of}
 use Rattle.csv_source.specs.CsvItems.{Item}
-use Rattle.result_text.specs.AnswerText.{header_line, row_lines, picked, answer_text}
+use Rattle.result_text.specs.AnswerText.{header_line}
 use Rattle.dfx_top.specs.Thin.{Script, Column, is_thin_kind, is_column}
 use Rattle.dfx_top.specs.Runs.{column_lines, WrotePart}
 use Rattle.dfx_top.specs.Answers.{WroteFirst, Stopped, Began, Ran}

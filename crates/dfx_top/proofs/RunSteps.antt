@@ -1,7 +1,7 @@
 -- Rows of a table, a batch more.
-use Rattle.std.proofs.Common.{◌≡◌, ◌≢◌, refl, ℕ, suc, ◌+◌, ◌-◌, ◌%◌, ◌≤◌, ◌<◌, true, List, [], ◌∷◌, ◌++◌, length, map, take, drop, Option, Some, None, Bool, Result, Ok, Err, ap, sym, ◌∙◌, arith, append_assoc, length-append, min}
+use Rattle.std.proofs.Common.{◌≡◌, ◌≢◌, refl, ℕ, suc, ◌+◌, ◌≤◌, true, List, [], ◌∷◌, ◌++◌, length, map, take, drop, Option, Some, Bool, Result, Ok, Err, ap, sym, ◌∙◌, arith, append_assoc, length-append, min}
 use Rattle.std.proofs.Math.Seq.{take-append-add, take-length}
-use Rattle.std.proofs.lemmas.List.{take_all, take-append-drop, append-nil, map-append, length-take}
+use Rattle.std.proofs.lemmas.List.{take_all, take-append-drop, map-append, length-take}
 use Rattle.dfx_outside.specs.Bytes.{EndsInFront}
 use Rattle.dfx_value.specs.declared.value.Value.{Value as Cell}
 use Rattle.csv_source.specs.CsvItems.{Item, is_bad}

@@ -47,11 +47,11 @@ text_after bytes next left cs c rest whole some comma column =
 
 pub ruleset column_steps = (text_after)
 
-regroup_declared : (create table opened columns stored path end rest : List ℕ)
+pub regroup_declared : (create table opened columns stored path end rest : List ℕ)
     → create ++ (table ++ (opened ++ (columns ++ (stored ++ (path ++ (end ++ rest)))))) ≡ (create ++ table ++ opened ++ columns ++ stored ++ path ++ end) ++ rest
 regroup_declared create table opened columns stored path end rest = simp append_assoc
 
-regroup_selects : (gap select selected from table ending : List ℕ)
+pub regroup_selects : (gap select selected from table ending : List ℕ)
     → gap ++ (select ++ (selected ++ (from ++ (table ++ ending)))) ≡ gap ++ select ++ selected ++ from ++ table ++ ending
 regroup_selects gap select selected from table ending = simp append_assoc
 

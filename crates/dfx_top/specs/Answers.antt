@@ -1,6 +1,6 @@
 -- Meaning: what a command wrote, by how it ended. `all` are the contents of the files, `before` and `now` what the sink
 -- had taken at the call and at its end.
-use Rattle.std.specs.Prelude.{ℕ, ◌≡◌, ◌⊎◌, ◌<◌, ◌%◌, ◌++◌, ◌∷◌, [], Bool, List, map, Option, Some, None, Result, Ok, Err, nat_eq}
+use Rattle.std.specs.Prelude.{ℕ, ◌≡◌, ◌⊎◌, ◌++◌, ◌∷◌, [], List, map, Option, Some, None, Result, Ok, Err, nat_eq}
 use Rattle.std.specs.List.{position_from}
 use Rattle.std.specs.Cmp.Lexicographic.{pointwise}
 use Rattle.dfx_outside.specs.Bytes.{EndsInFront}
@@ -9,7 +9,7 @@ use Rattle.dfx_value.specs.declared.kind.Kind.{Kind}
 use Rattle.dfx_value.specs.declared.value.Value.{Value as Cell}
 use Rattle.csv_source.specs.CsvItems.{Item, csv_items}
 use Rattle.result_text.specs.AnswerText.{header_line, answer_text, picked}
-use Rattle.dfx_top.specs.Thin.{Script, Column, IsThin}
+use Rattle.dfx_top.specs.Thin.{Script, IsThin}
 use Rattle.dfx_top.specs.Words.{script_path}
 use Rattle.dfx_top.specs.Runs.{WroteAll, WroteBefore}
 use Rattle.dfx_top.specs.declared.failure.Failure.{Failure}
@@ -78,11 +78,19 @@ pub record Reads (words : List (List ℕ)) (all : Contents) (s : Script) : Type 
   pub content_is : content all path ≡ Some bytes
   pub thin : IsThin bytes s
 
+-- the words name a file whose bytes are no thin script
+pub record NamesNone (words : List (List ℕ)) (all : Contents) : Type 0 where
+  pub path : List ℕ
+  pub bytes : List ℕ
+  pub words_are : script_path words ≡ Some path
+  pub content_is : content all path ≡ Some bytes
+  pub none : (s : Script) → ¬ (IsThin bytes s)
+
 -- how the command ended
 abbrev pub Ended : List (List ℕ) → Contents → List ℕ → Option (List ℕ) → Option Failure → Type 0
 Ended words all before now None = (s : Script) × (Reads words all s × Answered all before s now)
 Ended words all before now (Some failure.Words) = (script_path words ≡ None) × (now ≡ Some before)
-Ended words all before now (Some failure.Script) = now ≡ Some before
+Ended words all before now (Some failure.Script) = (now ≡ Some before) × NamesNone words all
 Ended words all before now (Some (failure.Missing p)) =
     (now ≡ Some before) × (content all p ≡ None) × ((script_path words ≡ Some p) ⊎ ((s : Script) × (Reads words all s × (p ≡ s.path))))
 Ended words all before now (Some (failure.BadFile p)) = (s : Script) × (Reads words all s × (p ≡ s.path) × Stopped all before s now)

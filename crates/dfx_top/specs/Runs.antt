@@ -1,5 +1,5 @@
 -- Words: how far the rows of a table were written.
-use Rattle.std.specs.Prelude.{ℕ, ◌≡◌, ◌≤◌, ◌<◌, ◌+◌, ◌*◌, ◌-◌, ◌%◌, ◌^◌, ◌++◌, ◌∷◌, [], Bool, true, false, List, length, map, take, Option, Some, None, Result, Ok, Err, ⊤}
+use Rattle.std.specs.Prelude.{ℕ, ◌≡◌, ◌<◌, ◌%◌, ◌++◌, ◌∷◌, [], List, length, map, Option, Some, Ok, Err}
 use Rattle.dfx_outside.specs.Bytes.{EndsInFront}
 use Rattle.dfx_value.specs.declared.value.Value.{Value as Cell}
 use Rattle.csv_source.specs.CsvItems.{Item}

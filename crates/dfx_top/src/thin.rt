@@ -1,8 +1,11 @@
 //! Scripts in the thin form: one CSV table, and one of its columns.
 
-ghost use Rattle.std.specs.Prelude.{◌≡◌, ◌⊎◌, ◌==◌, not, take, ◌++◌, ◌∷◌, ◌≤◌, ◌<◌, ℕ, List, [], codes, true, length, map, IfOk, IfSome, MatchOption};
-ghost use Rattle.std.specs.List.{list_all};
+ghost use Rattle.std.specs.Prelude.{◌≡◌, ◌⊎◌, ◌↔◌, ◌==◌, not, take, ◌++◌, ◌∷◌, ◌≤◌, ◌<◌, ℕ, List, [], codes, true, false, length, map, IfOk, IsOkAnd, IfSome, MatchOption};
+ghost use Rattle.std.specs.Char.{is_ascii_lowercase};
+ghost use Rattle.std.specs.List.{list_all, prefix_len};
 ghost use Rattle.dfx_top.specs.Names.{is_among, is_name};
+ghost use Rattle.dfx_top.specs.Exact.{Found, starts_letter};
+ghost use Rattle.dfx_value.specs.declared.kind.Kind.{Kind};
 ghost use Rattle.dfx_top.specs.Thin as spec;
 
 use crate::names::is_name;
@@ -57,18 +60,30 @@ pub enum ThinRefused {
 }
 
 impl From<AllocError> for ThinRefused {
+    ghost use Rattle.dfx_top.specs.declared.thin.ThinRefused.TheVariants as refused;
+
+    ghost from_gives = { λ _ e. e ≡ refused.NoMemory };
+
     fn from(_: AllocError) -> ThinRefused {
         ThinRefused::NoMemory
     }
 }
 
 impl<T: Drop> From<AllocFailed<T>> for ThinRefused {
+    ghost use Rattle.dfx_top.specs.declared.thin.ThinRefused.TheVariants as refused;
+
+    ghost from_gives = { λ _ e. e ≡ refused.NoMemory };
+
     fn from(_: AllocFailed<T>) -> ThinRefused {
         ThinRefused::NoMemory
     }
 }
 
 impl From<TextRefused> for ThinRefused {
+    ghost use Rattle.dfx_top.specs.Exact.{of_text};
+
+    ghost from_gives = { λ refused e. e ≡ of_text refused };
+
     fn from(refused: TextRefused) -> ThinRefused {
         match refused {
             TextRefused::NotUtf8 { place: _ } => ThinRefused::NoScript,
@@ -80,7 +95,8 @@ impl From<TextRefused> for ThinRefused {
 /// What follows a word.
 #[tactic(auto, using(crate::proofs::ThinSteps::after_word))]
 fn after<'a>(bytes: &'a [u8], word: &[u8]) -> Result<&'a [u8], ThinRefused>
-    ensures { IfOk result (λ rest. bytes.now ≡ word.now ++ rest.now) }
+    ensures text { IfOk result (λ rest. bytes.now ≡ word.now ++ rest.now) }
+    ensures exact { (tail : List ℕ) → bytes.now ≡ word.now ++ tail → IsOkAnd result (λ rest. rest.now ≡ tail) }
 {
     match bytes.strip_prefix(word) {
         Some(rest) => Ok(rest),
@@ -90,7 +106,8 @@ fn after<'a>(bytes: &'a [u8], word: &[u8]) -> Result<&'a [u8], ThinRefused>
 
 /// How many small ASCII letters stand first.
 fn letter_count(bytes: &[u8]) -> usize
-    ensures { result ≤ length bytes.now }
+    ensures within { result ≤ length bytes.now }
+    ensures exact { result ≡ prefix_len is_ascii_lowercase bytes.now }
 {
     for (at, byte) in bytes.iter().enumerate() {
         if !byte.is_ascii_lowercase() {
@@ -102,7 +119,9 @@ fn letter_count(bytes: &[u8]) -> usize
 
 /// A name and what follows it.
 fn name(bytes: &[u8]) -> Result<(&[u8], &[u8]), ThinRefused>
-    ensures { IfOk result (λ found. (bytes.now ≡ found.0.now ++ found.1.now) × (is_name found.0.now ≡ true)) }
+    ensures name { IfOk result (λ found. (bytes.now ≡ found.0.now ++ found.1.now) × (is_name found.0.now ≡ true)) }
+    ensures exact { (n tail : List ℕ) → is_name n ≡ true → starts_letter tail ≡ false → bytes.now ≡ n ++ tail
+        → IsOkAnd result (λ found. (found.0.now ≡ n) × (found.1.now ≡ tail)) }
 {
     let (word, rest) = bytes.split_at(letter_count(bytes));
     if is_name(word) {
@@ -114,7 +133,9 @@ fn name(bytes: &[u8]) -> Result<(&[u8], &[u8]), ThinRefused>
 
 /// A kind and what follows it.
 fn kind(bytes: &[u8]) -> Result<(Kind, &[u8]), ThinRefused>
-    ensures { IfOk result (λ found. (bytes.now ≡ spec.kind_word found.0 ++ found.1.now) × (spec.is_thin_kind found.0 ≡ true)) }
+    ensures kind { IfOk result (λ found. (bytes.now ≡ spec.kind_word found.0 ++ found.1.now) × (spec.is_thin_kind found.0 ≡ true)) }
+    ensures exact { (k : Kind) (tail : List ℕ) → spec.is_thin_kind k ≡ true → bytes.now ≡ spec.kind_word k ++ tail
+        → IsOkAnd result (λ found. (found.0 ≡ k) × (found.1.now ≡ tail)) }
 {
     if let Ok(rest) = after(bytes, b"BIGINT") {
         return Ok((Kind::Int, rest));
@@ -127,6 +148,8 @@ fn kind(bytes: &[u8]) -> Result<(Kind, &[u8]), ThinRefused>
 fn read_column(alloc: Global, bytes: &[u8]) -> Result<(Column, &[u8]), ThinRefused>
     ensures text { IfOk result (λ found. bytes.now ≡ spec.column_text found.0 ++ found.1.now) }
     ensures column { IfOk result (λ found. spec.is_column found.0 ≡ true) }
+    ensures exact { (c : spec.Column) (tail : List ℕ) → spec.is_column c ≡ true → bytes.now ≡ spec.column_text c ++ tail
+        → Found result (λ found. (found.0 ≡ c) × (found.1.now ≡ tail)) }
 {
     let (word, rest) = name(bytes)?;
     let rest = after(rest, b" ")?;
@@ -142,6 +165,8 @@ fn read_columns(alloc: Global, bytes: &[u8]) -> Result<(Vec<Column>, &[u8]), Thi
     ensures columns { IfOk result (λ found. list_all spec.is_column found.0.items ≡ true) }
     ensures some { IfOk result (λ found. 0 < length found.0.items) }
     ensures few { IfOk result (λ found. length found.0.items ≤ 256) }
+    ensures exact { (cs : List spec.Column) (tail : List ℕ) → list_all spec.is_column cs ≡ true → 0 < length cs → length cs ≤ 256
+        → bytes.now ≡ spec.columns_text cs ++ 41 ∷ tail → Found result (λ found. (found.0.items ≡ cs) × (found.1.now ≡ 41 ∷ tail)) }
 {
     let mut columns = Vec::new(alloc);
     let (first, mut rest) = read_column(alloc, bytes)?;
@@ -185,6 +210,7 @@ fn are_distinct(columns: &[Column]) -> bool
 fn path_length(bytes: &[u8]) -> usize
     ensures within { result ≤ length bytes.now }
     ensures quotes { list_all (λ b. not (b == 39)) (take result bytes.now) ≡ true }
+    ensures exact { result ≡ prefix_len (λ b. not (b == 39)) bytes.now }
 {
     for (at, byte) in bytes.iter().enumerate() {
         if *byte == b'\'' {
@@ -206,7 +232,9 @@ fn names_no_folder(path: &[u8]) -> bool
 
 /// A path and what follows it.
 fn path(bytes: &[u8]) -> Result<(&[u8], &[u8]), ThinRefused>
-    ensures { IfOk result (λ found. (bytes.now ≡ found.0.now ++ found.1.now) × (spec.is_path found.0.now ≡ true)) }
+    ensures path { IfOk result (λ found. (bytes.now ≡ found.0.now ++ found.1.now) × (spec.is_path found.0.now ≡ true)) }
+    ensures exact { (p tail : List ℕ) → spec.is_path p ≡ true → bytes.now ≡ p ++ 39 ∷ tail
+        → IsOkAnd result (λ found. (found.0.now ≡ p) × (found.1.now ≡ 39 ∷ tail)) }
 {
     let (path, rest) = bytes.split_at(path_length(bytes));
     if names_no_folder(path) {
@@ -234,6 +262,9 @@ fn read_declaration(alloc: Global, bytes: &[u8]) -> Result<Declaration<'_>, Thin
     ensures some { IfOk result (λ d. 0 < length d.columns.items) }
     ensures few { IfOk result (λ d. length d.columns.items ≤ 256) }
     ensures path { IfOk result (λ d. spec.is_path d.path.now ≡ true) }
+    ensures exact { (table : List ℕ) (columns : List spec.Column) (path tail : List ℕ) → is_name table ≡ true → list_all spec.is_column columns ≡ true
+        → 0 < length columns → length columns ≤ 256 → spec.is_path path ≡ true → bytes.now ≡ spec.declared table columns path ++ tail
+        → Found result (λ d. (d.table.now ≡ table) × (d.columns.items ≡ columns) × (d.path.now ≡ path) × (d.rest.now ≡ tail)) }
 {
     let rest = after(bytes, b"CREATE EXTERNAL TABLE ")?;
     let (table, rest) = name(rest)?;
@@ -252,7 +283,8 @@ fn read_declaration(alloc: Global, bytes: &[u8]) -> Result<Declaration<'_>, Thin
 
 /// What follows a space or a line feed.
 fn after_gap(bytes: &[u8]) -> Result<&[u8], ThinRefused>
-    ensures { IfOk result (λ rest. (bytes.now ≡ codes " " ++ rest.now) ⊎ (bytes.now ≡ codes "\n" ++ rest.now)) }
+    ensures gap { IfOk result (λ rest. (bytes.now ≡ codes " " ++ rest.now) ⊎ (bytes.now ≡ codes "\n" ++ rest.now)) }
+    ensures exact { (gap tail : List ℕ) → spec.IsGap gap → bytes.now ≡ gap ++ tail → IsOkAnd result (λ rest. rest.now ≡ tail) }
 {
     match bytes {
         [b' ' | b'\n', rest @ ..] => Ok(rest),
@@ -262,7 +294,8 @@ fn after_gap(bytes: &[u8]) -> Result<&[u8], ThinRefused>
 
 /// Whether bytes are a semicolon and a line feed, either of which may be left out.
 fn is_ending(bytes: &[u8]) -> bool
-    ensures { result ≡ true → spec.IsEnding bytes.now }
+    ensures ending { result ≡ true → spec.IsEnding bytes.now }
+    ensures exact { spec.IsEnding bytes.now → result ≡ true }
 {
     matches!(bytes, [] | [b';'] | [b'\n'] | [b';', b'\n'])
 }
@@ -270,7 +303,8 @@ fn is_ending(bytes: &[u8]) -> bool
 /// The selected name of the second statement over this table, to the script's end.
 #[tactic(auto, using(crate::proofs::ThinSteps::selection_steps))]
 fn read_selection<'a>(bytes: &'a [u8], table: &[u8]) -> Result<&'a [u8], ThinRefused>
-    ensures { IfOk result (λ selected. spec.Selects bytes.now table.now selected.now) }
+    ensures selects { IfOk result (λ selected. spec.Selects bytes.now table.now selected.now) }
+    ensures exact { (selected : List ℕ) → spec.Selects bytes.now table.now selected → IsOkAnd result (λ found. found.now ≡ selected) }
 {
     let rest = after_gap(bytes)?;
     let rest = after(rest, b"SELECT ")?;
@@ -288,6 +322,7 @@ fn read_selection<'a>(bytes: &'a [u8], table: &[u8]) -> Result<&'a [u8], ThinRef
 #[tactic(auto, using(crate::proofs::ThinSteps::script_steps))]
 pub fn read_thin(alloc: Global, bytes: &[u8]) -> Result<Script, ThinRefused>
     ensures thin { IfOk result (λ script. spec.IsThin bytes.now script) }
+    ensures exact { (s : spec.Script) → spec.IsThin bytes.now s → Found result (λ script. script ≡ s) }
 {
     if bytes.len() > BYTES {
         return Err(ThinRefused::NoScript);

@@ -1,4 +1,4 @@
-use Rattle.std.proofs.Common.{rules, ◌≡◌, length, true, Ok, Err, refl, sym, ◌∙◌}
+use Rattle.std.proofs.Common.{◌≡◌, length, refl, sym, ◌∙◌}
 use Rattle.std.proofs.lemmas.Bool.{eqb-true, eqb-false}
 use Rattle.dfx_top.specs.Runs.{batch_rows}
 use Rattle.dfx_top.proofs.RunSteps.{wrote_more, wrote_last, wrote_before, wrote_none, wrote_some, bad_of, ok_same, err_same}

@@ -1,4 +1,4 @@
-use Rattle.std.proofs.Common.{◌≡◌, ◌≤◌, ◌+◌, ℕ, List, Some, Bool, true, false, cond}
+use Rattle.std.proofs.Common.{◌≡◌, ◌≤◌, ◌+◌, ℕ, List, Some, true, false, cond}
 use Rattle.csv_source.specs.CsvItems.{Item}
 use Rattle.csv_source.specs.ScanView.{left_count}
 use Rattle.dfx_top.specs.Runs.{Wrote, WroteAll}

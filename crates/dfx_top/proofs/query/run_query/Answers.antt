@@ -1,4 +1,4 @@
-use Rattle.std.proofs.Common.{◌≡◌, ◌∙◌, sym, ap, refl, Some, Err, List, ℕ, map, option_map}
+use Rattle.std.proofs.Common.{◌≡◌, ◌∙◌, sym, ap, Some, Err, List, ℕ, map, option_map}
 use Rattle.dfx_value.specs.declared.kind.Kind.{Kind}
 use Rattle.dfx_outside.specs.Contents.{content}
 use Rattle.csv_source.specs.CsvItems.{csv_items}

@@ -1,4 +1,3 @@
-use Rattle.std.proofs.Common.{◌++◌, ◌∷◌, []}
 use Rattle.std.proofs.lemmas.Result.{on_err_weaker}
 use Rattle.dfx_top.proofs.QuerySteps.{first_rows}
 use Rattle.dfx_top.proofs.query.write_answer.Goals as goal
