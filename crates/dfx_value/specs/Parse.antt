@@ -1,5 +1,5 @@
--- The values that CSV fields write.
-use Rattle.std.specs.Prelude.{ℕ, ◌+◌, ◌-◌, ◌*◌, ◌^◌, ℤ, pos, negsuc, neg_ℤ, nat_lt, Bool, true, false, ◌&&◌, ◌==◌, Option, Some, None, option_and_then, Result, Ok, Err, ⊤, ◌≡◌, ◌≤◌, codes, List, [], ◌∷◌, length, take, drop, if◌then◌else◌}
+-- Meaning: the values that CSV fields write.
+use Rattle.std.specs.Prelude.{ℕ, ◌+◌, ◌-◌, ◌*◌, ◌^◌, ℤ, pos, negsuc, neg_ℤ, nat_lt, Bool, true, false, ◌&&◌, ◌==◌, Option, Some, None, option_and_then, Result, Ok, Err, ⊤, ◌≡◌, codes, List, [], ◌∷◌, length, take, drop, if◌then◌else◌}
 use Rattle.std.specs.List.{list_all}
 use Rattle.std.specs.Str.{all_ascii_digits}
 use Rattle.std.specs.Str.{str_to_ascii_lowercase, bytes_eq, is_utf8}
