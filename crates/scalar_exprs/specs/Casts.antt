@@ -34,17 +34,19 @@ read (Some v) = Ok v
 read None = Err CastRefused
 
 -- what a CSV field with these bytes writes, which isn't empty
-abbrev pub cast_text : Kind → List ℕ → Outcome
-cast_text kind.Text t = Ok (value.Text t)
-cast_text k t = if is_empty t then Err CastRefused else read (parsed k t)
+abbrev pub field_value : Kind → List ℕ → Outcome
+field_value k t = if is_empty t then Err CastRefused else read (parsed k t)
+
+abbrev pub cast_int : Kind → ℤ → Outcome
+cast_int kind.Int n = Ok (value.Int n)
+cast_int k n = cast_number k (at_scale n 0)
 
 -- each value to a text as printed, a text to each kind, a number to each kind of numbers
 abbrev pub cast_value : Kind → Value → Outcome
 cast_value k value.Null = Ok value.Null
 cast_value kind.Text v = Ok (value.Text (printed v))
-cast_value k (value.Text t) = cast_text k t
-cast_value kind.Int (value.Int n) = Ok (value.Int n)
-cast_value k (value.Int n) = cast_number k (at_scale n 0)
+cast_value k (value.Text t) = field_value k t
+cast_value k (value.Int n) = cast_int k n
 cast_value k (value.Dec d) = cast_number k d
 cast_value k (value.Bool b) = Ok value.Null
 

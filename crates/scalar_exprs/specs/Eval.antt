@@ -2,6 +2,7 @@
 use Rattle.std.specs.Prelude.{ℕ, Bool, true, false, Option, Some, None, List, [], ◌∷◌, Result, Ok, Err, ⊤, ◌≡◌, map, if◌then◌else◌}
 use Rattle.dfx_value.specs.Checked.{◌>>=◌}
 use Rattle.dfx_value.specs.Rows.{cell}
+use Rattle.dfx_value.specs.declared.op.Op.{Op}
 use Rattle.dfx_value.specs.declared.value.Value.{Value}
 use Rattle.dfx_value.specs.declared.value.Value.TheVariants as value
 use Rattle.dfx_value.specs.declared.fault.EvalFault.{EvalFault}
@@ -29,14 +30,22 @@ abbrev pub first_value : List Outcome → Outcome
 first_value [] = Ok value.Null
 first_value (part ∷ parts) = part >>= λ v. if is_null v then first_value parts else Ok v
 
+-- the cell of a column
+abbrev pub column : List Value → ℕ → Outcome
+column row k = Ok (cell row k)
+
+-- a binary operator, from the value of its left operand and the outcome of its right one
+abbrev pub with_right : Op → Value → Outcome → Outcome
+with_right op v right = right >>= λ w. operated op v w
+
 -- one level of an expression, from the outcomes of its parts: operands from the left, all of them
 abbrev pub outcome : List Value → Expr-F Outcome → Outcome
-outcome row (Expr-F.Column k) = Ok (cell row k)
+outcome row (Expr-F.Column k) = column row k
 outcome row (Expr-F.Const v kind) = Ok v
 outcome row (Expr-F.Not a) = a >>= λ v. Ok (from_truth (not_3 (truth v)))
 outcome row (Expr-F.Neg a) = a >>= negated
 outcome row (Expr-F.IsNull a) = a >>= λ v. Ok (value.Bool (is_null v))
-outcome row (Expr-F.Binary op a b) = a >>= λ v. b >>= λ w. operated op v w
+outcome row (Expr-F.Binary op a b) = a >>= λ v. with_right op v b
 outcome row (Expr-F.Case arms other) = taken arms >>= λ found. or_else found other
 outcome row (Expr-F.Coalesce parts) = first_value parts
 outcome row (Expr-F.Cast a kind) = a >>= cast kind
@@ -58,3 +67,11 @@ abbrev pub Gives : {A : Type 0} → Result A EvalRefused → Result A EvalFault 
 Gives (Ok v) o = o ≡ Ok v
 Gives (Err (refused.Fault f)) o = o ≡ Err f
 Gives (Err refused.NoMemory) o = ⊤
+
+abbrev pub node_constant : Expr-F (Option Value) → Option Value
+node_constant (Expr-F.Const v kind) = Some v
+node_constant _ = None
+
+-- the value of a Const, and none of any other expression
+unfoldable pub constant_of : Expr → Option Value
+constant_of = fold-Expr (Option Value) node_constant

@@ -1,5 +1,5 @@
 -- Meaning: the operators and functions of values. NULL comes of a NULL, and of operands that have no kind in common.
-use Rattle.std.specs.Prelude.{ℕ, ◌+◌, ◌^◌, ℤ, pos, negsuc, ◌+ℤ◌, ◌-ℤ◌, ◌*ℤ◌, neg_ℤ, unsigned_abs, int_div, int_rem, nat_le, Bool, true, false, ◌==◌, ◌||◌, not, List, ◌++◌, length, Result, Ok, Err, if◌then◌else◌}
+use Rattle.std.specs.Prelude.{ℕ, ◌+◌, ℤ, pos, negsuc, ◌+ℤ◌, ◌-ℤ◌, ◌*ℤ◌, neg_ℤ, unsigned_abs, int_div, int_rem, nat_le, Bool, true, false, ◌==◌, ◌||◌, List, ◌++◌, length, Option, Some, None, option_map, Result, Ok, Err, if◌then◌else◌}
 use Rattle.std.specs.Str.{chars}
 use Rattle.std.specs.declared.cmp.Ordering.{Ordering}
 use Rattle.std.specs.Ordering.{is_eq, is_ne, is_lt, is_le, is_gt, is_ge}
@@ -24,6 +24,10 @@ Outcome = Result Value EvalFault
 -- the whole number, where 64 bits hold it
 unfoldable pub whole : ℤ → Outcome
 whole n = if fits_64 n then Ok (value.Int n) else Err Overflow
+
+abbrev pub whole_or_overflow : Option ℤ → Outcome
+whole_or_overflow (Some n) = Ok (value.Int n)
+whole_or_overflow None = Err Overflow
 
 abbrev pub decimal : Result Number EvalFault → Outcome
 decimal number = number >>= λ d. Ok (value.Dec d)
@@ -65,14 +69,20 @@ abbrev pub of_ints : (ℤ → ℤ → Outcome) → Value → Value → Outcome
 of_ints f (value.Int a) (value.Int b) = f a b
 of_ints f a b = Ok value.Null
 
+abbrev pub texts_in_one : List ℕ → List ℕ → Outcome
+texts_in_one a b = Ok (value.Text (a ++ b))
+
 -- one text after the other
 abbrev pub joined_text : Value → Value → Outcome
-joined_text (value.Text a) (value.Text b) = Ok (value.Text (a ++ b))
+joined_text (value.Text a) (value.Text b) = texts_in_one a b
 joined_text a b = Ok value.Null
 
--- a comparison, unknown where an operand is NULL
+-- the order of two values, unknown where one is NULL
+abbrev pub order_of : Value → Value → Option Ordering
+order_of a b = if is_null a || is_null b then None else Some (value_cmp a b)
+
 abbrev pub compared : (Ordering → Bool) → Value → Value → Outcome
-compared test a b = if is_null a || is_null b then Ok value.Null else Ok (value.Bool (test (value_cmp a b)))
+compared test a b = Ok (from_truth (option_map test (order_of a b)))
 
 -- a binary operator of the values of its operands
 abbrev pub operated : Op → Value → Value → Outcome
@@ -90,6 +100,11 @@ operated op.Gt a b = compared is_gt a b
 operated op.Ge a b = compared is_ge a b
 operated op.And a b = Ok (from_truth (and_3 (truth a) (truth b)))
 operated op.Or a b = Ok (from_truth (or_3 (truth a) (truth b)))
+
+-- the same where `||` is left out
+abbrev pub operated_within : Op → Value → Value → Outcome
+operated_within op.Concat a b = Ok value.Null
+operated_within o a b = operated o a b
 
 abbrev pub negated : Value → Outcome
 negated (value.Int n) = whole (neg_ℤ n)
