@@ -1,0 +1,6 @@
+use Rattle.std.proofs.Common.{◌≡◌, ◌++◌, take, drop}
+use Rattle.logical_plan.specs.Body as spec
+use Rattle.logical_plan.proofs.kinds.append_kinds.Given as goal
+
+abbrev pub invariant-loop-kind : goal.invariant-loop-kind
+invariant-loop-kind l = l.kinds.items ≡ l.fn.kinds.items ++ take l.kind-index l.more
