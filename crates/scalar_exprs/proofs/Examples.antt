@@ -18,6 +18,8 @@ use Rattle.scalar_exprs.specs.Casts.{cast}
 use Rattle.scalar_exprs.specs.Eval.{eval, taken, first_value}
 use Rattle.scalar_exprs.specs.Kinds.{kind_of}
 use Rattle.scalar_exprs.specs.Agg.{agg}
+use Rattle.scalar_exprs.proofs.EvalLemmas.{evals}
+use Rattle.scalar_exprs.proofs.KindSteps.{kinds}
 
 abbrev pub dec : ℕ → ℕ → Value
 dec n s = Dec (record { unscaled = pos n; scale = s })
@@ -117,3 +119,28 @@ mean_of_three = refl
 pub least_value : agg (call.Min 0) (Some (kind.Dec 5 2)) (dec 150 2 ∷ Null ∷ dec 25 2 ∷ []) ≡ Ok (dec 25 2)
 unfolding agg value_cmp units
 least_value = refl
+
+-- a whole expression: AND looks at both sides, also where the left one is false
+pub strict_and : eval (Int (pos 8) ∷ Int (pos 0) ∷ [])
+    (Binary op.And (Binary op.Ne (Column 1) (Const (Int (pos 0)) kind.Int)) (Binary op.Gt (Binary op.Div (Column 0) (Column 1)) (Const (Int (pos 1)) kind.Int)))
+  ≡ Err DivideByZero
+unfolding value_cmp whole
+strict_and = simp evals
+
+-- CASE doesn't divide where its test isn't true
+pub guarded : eval (Int (pos 8) ∷ Int (pos 0) ∷ [])
+    (Case ((Binary op.Ne (Column 1) (Const (Int (pos 0)) kind.Int), Binary op.Div (Column 0) (Column 1)) ∷ []) (Const Null kind.Int))
+  ≡ Ok Null
+unfolding value_cmp whole
+guarded = simp evals
+
+-- a product of decimals has the sum of the scales, and none where it passes 38
+pub product_kind_of : kind_of (kind.Dec 38 19 ∷ kind.Dec 38 19 ∷ []) (Binary op.Mul (Column 0) (Column 1)) ≡ Some (kind.Dec 38 38)
+product_kind_of = simp kinds
+
+pub product_past : kind_of (kind.Dec 38 19 ∷ kind.Dec 38 20 ∷ []) (Binary op.Mul (Column 0) (Column 1)) ≡ None
+product_past = simp kinds
+
+-- no CAST is added: CASE of BIGINT and DECIMAL has no kind
+pub mixed_results : kind_of (kind.Bool ∷ kind.Int ∷ kind.Dec 5 2 ∷ []) (Case ((Column 0, Column 1) ∷ []) (Column 2)) ≡ None
+mixed_results = simp kinds
