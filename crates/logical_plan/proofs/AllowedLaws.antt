@@ -1,20 +1,17 @@
 -- What a query may answer: examples, and that an answer of all items leaves no fault out.
-use Rattle.std.proofs.Common.{◌≡◌, refl, ℕ, zero, suc, ◌+◌, ◌<◌, ◌≤◌, pos, true, false, Bool, List, [], ◌∷◌, ◌++◌, length, take, drop, None, Some, Option, Ok, Err, arith, ap, sym, ◌∙◌, subst, inl, inr, lit≤}
+use Rattle.std.proofs.Common.{◌≡◌, refl, ℕ, zero, suc, ◌+◌, ◌<◌, ◌≤◌, false, List, [], ◌∷◌, length, take, None, Some, Ok, Err, arith, ap, sym, ◌∙◌, subst, inl, inr, lit≤}
 use Rattle.std.specs.Prelude.{IsPermutation, IsSorted}
 use Rattle.std.specs.List.{sum_by}
 use Rattle.std.specs.Ordering.{is_lt}
-use Rattle.std.specs.declared.cmp.Ordering.{Ordering}
-use Rattle.std.proofs.lemmas.List.Sorted.{IsPermutation-refl, IsPermutation-to_front, IsPermutation-append_comm, sum_by-IsPermutation}
+use Rattle.std.proofs.lemmas.List.Sorted.{IsPermutation-refl, IsPermutation-append_comm, sum_by-IsPermutation}
 use Rattle.std.proofs.lemmas.Bool.{false≢true}
 use Rattle.std.proofs.lemmas.List.Sums.{sum_by-cons}
 use Rattle.dfx_value.specs.Order.{value_cmp}
 use Rattle.dfx_value.specs.Rows.{row_cmp}
 use Rattle.dfx_value.specs.declared.rows.SortKey.{SortKey}
-use Rattle.dfx_value.specs.declared.fault.EvalFault.TheVariants.{DivideByZero}
 use Rattle.dfx_value.specs.declared.fault.ItemFault.{ItemFault}
-use Rattle.dfx_value.specs.declared.fault.ItemFault.TheVariants.{Evaluation}
 use Rattle.logical_plan.specs.Items.{Cells, Item, rows, faults}
-use Rattle.logical_plan.specs.Allowed.{first_of, Answers, IsArranged, Allows}
+use Rattle.logical_plan.specs.Allowed.{IsArranged, Allows}
 use Rattle.logical_plan.proofs.Examples.{int, one, two, zero_divided}
 
 -- ---- a limit before a fault, and none past it
@@ -29,7 +26,8 @@ pub before_the_fault : Allows [] 0 (Some 2) sixes ((int 6 ∷ []) ∷ (int 6 ∷
 before_the_fault = inr (record {
   arranged = sixes;
   same = IsPermutation-refl sixes;
-  answers = record { sorted = unordered (rows sixes); clean = refl; cut = refl } })
+  answers = record { sorted = unordered (rows sixes); clean = refl; cut = refl };
+})
 
 -- LIMIT 0 asks nothing
 pub limit_zero : Allows [] 5 (Some 0) (zero_divided ∷ []) []
@@ -53,14 +51,16 @@ unfolding value_cmp
 as_they_stand = inr (record {
   arranged = tied;
   same = IsPermutation-refl tied;
-  answers = record { sorted = sorted_two (int 1 ∷ int 5 ∷ []) (int 1 ∷ int 6 ∷ []) refl; clean = refl; cut = refl } })
+  answers = record { sorted = sorted_two (int 1 ∷ int 5 ∷ []) (int 1 ∷ int 6 ∷ []) refl; clean = refl; cut = refl };
+})
 
 pub the_other_way : Allows by_first 0 (Some 1) tied ((int 1 ∷ int 6 ∷ []) ∷ [])
 unfolding value_cmp
 the_other_way = inr (record {
   arranged = two (int 1) (int 6) ∷ two (int 1) (int 5) ∷ [];
   same = IsPermutation-append_comm (two (int 1) (int 6) ∷ []) (two (int 1) (int 5) ∷ []);
-  answers = record { sorted = sorted_two (int 1 ∷ int 6 ∷ []) (int 1 ∷ int 5 ∷ []) refl; clean = refl; cut = refl } })
+  answers = record { sorted = sorted_two (int 1 ∷ int 6 ∷ []) (int 1 ∷ int 5 ∷ []) refl; clean = refl; cut = refl };
+})
 
 pub unsorted : IsSorted (row_cmp by_first) ((int 2 ∷ []) ∷ (int 1 ∷ []) ∷ []) → ⊥
 unfolding value_cmp
@@ -106,7 +106,7 @@ no_fault_left_out order offset items answer a = same_faults a.arranged items a.s
 pub no_fault_within : (order : List SortKey) (offset limit : ℕ) (items : List Item) (answer : List Cells) → length items ≤ offset + limit → IsArranged order offset (Some limit) items answer → faults items ≡ []
 no_fault_within order offset limit items answer h a =
     same_faults a.arranged items a.same
-      (subst (λ is. faults is ≡ []) (take_all (offset + limit) a.arranged (subst (λ n. n ≤ offset + limit) (same_length a.arranged items a.same) h)) a.answers.clean)
+    (subst (λ is. faults is ≡ []) (take_all (offset + limit) a.arranged (subst (λ n. n ≤ offset + limit) (same_length a.arranged items a.same) h)) a.answers.clean)
 
 -- so LIMIT 3 allows nothing over these items
 pub past_the_fault : (answer : List Cells) → Allows [] 0 (Some 3) sixes answer → ⊥

@@ -1,6 +1,5 @@
 -- The items of a body, and the faults that it meets, node by node.
-use Rattle.std.proofs.Common.{◌≡◌, ℕ, List, [], ◌∷◌, ◌++◌, length, map, Option, ap, sym, ◌∙◌}
-use Rattle.dfx_value.specs.declared.fault.ItemFault.{ItemFault}
+use Rattle.std.proofs.Common.{◌≡◌, ℕ, List, [], ◌++◌, length, map, Option, ap, sym, ◌∙◌}
 use Rattle.dfx_value.specs.declared.kind.Kind.{Kind}
 use Rattle.dfx_value.specs.declared.op.AggCall.{AggCall}
 use Rattle.dfx_value.specs.declared.op.JoinKind.{JoinKind}
@@ -10,7 +9,7 @@ use Rattle.logical_plan.specs.declared.plan.Logical.TheOpen.{Logical-F}
 use Rattle.logical_plan.specs.declared.plan.Logical.TheVariants.{Scan, Filter, Project, Join, Aggregate, Distinct, UnionAll, rolls-Scan, rolls-Filter, rolls-Project, rolls-Join, rolls-Aggregate, rolls-Distinct, rolls-UnionAll}
 use Rattle.logical_plan.specs.declared.plan.Logical.TheFolds.{fold-roll-Logical, map-Logical}
 use Rattle.logical_plan.specs.declared.plan.Logical.TheViews.{roll-Logical}
-use Rattle.logical_plan.specs.Items.{Item, concat, faults, filter_items, project_items}
+use Rattle.logical_plan.specs.Items.{concat, faults, filter_items, project_items}
 use Rattle.logical_plan.specs.Joins.{joined}
 use Rattle.logical_plan.specs.Groups.{aggregated, distinct}
 use Rattle.logical_plan.specs.Body.{Part, Tables, whole, body, all_faults, node, scan, kinds}
@@ -75,7 +74,7 @@ all_faults-Project tables input items = faults_at tables (Project input items) (
 
 pub all_faults-Join : (tables : Tables) (kind : JoinKind) (left right : Logical) (keys : List (ℕ × ℕ)) (rest : Option Expr) →
     all_faults tables (Join kind left right keys rest)
-      ≡ faults (joined kind (length (kinds left)) (length (kinds right)) keys rest (body tables left) (body tables right)) ++ (all_faults tables left ++ all_faults tables right)
+    ≡ faults (joined kind (length (kinds left)) (length (kinds right)) keys rest (body tables left) (body tables right)) ++ (all_faults tables left ++ all_faults tables right)
 all_faults-Join tables kind left right keys rest = faults_at tables (Join kind left right keys rest) (Logical-F.Join kind left right keys rest) (rolls-Join kind left right keys rest)
     ∙ ap (λ ks. faults (joined kind (length ks) (length (whole tables right).kinds) keys rest (body tables left) (body tables right)) ++ (all_faults tables left ++ all_faults tables right)) (kinds_at tables left)
     ∙ ap (λ ks. faults (joined kind (length (kinds left)) (length ks) keys rest (body tables left) (body tables right)) ++ (all_faults tables left ++ all_faults tables right)) (kinds_at tables right)

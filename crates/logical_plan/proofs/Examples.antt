@@ -1,9 +1,9 @@
 -- Worked examples of the meaning, by computing.
-use Rattle.std.proofs.Common.{◌≡◌, refl, ℕ, zero, suc, pos, negsuc, true, false, Bool, List, [], ◌∷◌, ◌++◌, length, None, Some, Option, Ok, Err, arith, ◌∙◌}
+use Rattle.std.proofs.Common.{◌≡◌, refl, ℕ, pos, List, [], ◌∷◌, None, Some, Ok, Err}
 use Rattle.dfx_value.specs.Order.{value_cmp}
 use Rattle.dfx_value.specs.Decimal.{units}
 use Rattle.dfx_value.specs.declared.value.Value.{Value}
-use Rattle.dfx_value.specs.declared.value.Value.TheVariants.{Null, Int, Dec, Text}
+use Rattle.dfx_value.specs.declared.value.Value.TheVariants.{Null, Int, Dec}
 use Rattle.dfx_value.specs.declared.kind.Kind.TheVariants as kind
 use Rattle.dfx_value.specs.declared.fault.EvalFault.TheVariants.{Overflow, DivideByZero}
 use Rattle.dfx_value.specs.declared.fault.ItemFault.TheVariants.{Evaluation}
@@ -72,12 +72,12 @@ abbrev pub ratio_test : Expr
 ratio_test = Binary op.Gt (Binary op.Div (Const (int 6) kind.Int) (Column 1)) (Const (int 2) kind.Int)
 
 pub faulting_residual : joined Full 1 2 ((0, 0) ∷ []) (Some ratio_test) (one (int 0) ∷ []) (two (int 0) (int 9) ∷ [])
-  ≡ zero_divided ∷ []
+    ≡ zero_divided ∷ []
 unfolding value_cmp
 faulting_residual = simp evals
 
 pub false_residual : joined Full 1 1 ((0, 0) ∷ []) (Some ratio_test) (one (int 3) ∷ []) (one (int 3) ∷ [])
-  ≡ two (int 3) Null ∷ two Null (int 3) ∷ []
+    ≡ two (int 3) Null ∷ two Null (int 3) ∷ []
 unfolding value_cmp whole_number
 false_residual = simp evals
 
@@ -110,13 +110,13 @@ pub one_fault : aggregated [] (call.CountAll ∷ []) (kind.Int ∷ []) (one (int
 one_fault = refl
 
 pub faults_beside : aggregated (0 ∷ []) (call.CountAll ∷ []) (kind.Int ∷ []) (one (int 1) ∷ zero_divided ∷ one (int 1) ∷ Err (Evaluation Overflow) ∷ [])
-  ≡ zero_divided ∷ Err (Evaluation Overflow) ∷ two (int 1) (int 2) ∷ []
+    ≡ zero_divided ∷ Err (Evaluation Overflow) ∷ two (int 1) (int 2) ∷ []
 unfolding agg value_cmp
 faults_beside = refl
 
 -- NULL keys are one group; COUNT skips NULL and COUNT(*) doesn't
 pub null_group : aggregated (0 ∷ []) (call.CountAll ∷ call.Count 0 ∷ []) (kind.Int ∷ []) (one Null ∷ one (int 7) ∷ one Null ∷ [])
-  ≡ Ok (Null ∷ int 2 ∷ int 0 ∷ []) ∷ Ok (int 7 ∷ int 1 ∷ int 1 ∷ []) ∷ []
+    ≡ Ok (Null ∷ int 2 ∷ int 0 ∷ []) ∷ Ok (int 7 ∷ int 1 ∷ int 1 ∷ []) ∷ []
 unfolding agg value_cmp
 null_group = refl
 
@@ -125,7 +125,7 @@ abbrev pub nines : Value
 nines = dec 99999999999999999999999999999999999999 0
 
 pub overflowing_group : aggregated (0 ∷ []) (call.Sum 1 ∷ []) (kind.Int ∷ kind.Dec 38 0 ∷ []) (two (int 1) nines ∷ two (int 2) (dec 5 0) ∷ two (int 1) (dec 1 0) ∷ [])
-  ≡ Err (Evaluation Overflow) ∷ two (int 2) (dec 5 0) ∷ []
+    ≡ Err (Evaluation Overflow) ∷ two (int 2) (dec 5 0) ∷ []
 unfolding agg value_cmp
 overflowing_group = refl
 

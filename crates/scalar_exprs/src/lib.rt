@@ -16,3 +16,6 @@ pub use evaluate::{constant_of, eval};
 pub use expr::Expr;
 pub use kinds::{call_kind, is_kind, kind_of};
 pub use refused::EvalRefused;
+
+#[cfg(test)]
+mod tests;
