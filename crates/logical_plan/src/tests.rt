@@ -2,7 +2,7 @@
 
 use super::*;
 use dfx_value::Kind;
-use scalar_exprs::{Expr, Op};
+use scalar_exprs::Expr;
 use sqlite_items::{Boxed, Items};
 use std::alloc::Global;
 use std::process::Abort;
@@ -14,60 +14,67 @@ const PRICE: Kind = Kind::Dec {
     scale: 2,
 };
 
-fn scan(alloc: Global, table: u32, kinds: &[Kind]) -> Result<Logical, Fail> {
-    Ok(Logical::Scan {
-        table,
-        kinds: Items::from_slice(alloc, kinds)?,
-    })
+fn scan(alloc: Global, table: u32, kinds: &[Kind]) -> Result<Boxed<Logical>, Fail> {
+    let kinds = Items::from_slice(alloc, kinds)?;
+    Ok(Boxed::new(alloc, Logical::Scan { table, kinds })?)
+}
+
+fn join(left: Boxed<Logical>, right: Boxed<Logical>, keys: Items<(u32, u32)>) -> Logical {
+    Logical::Join {
+        kind: JoinKind::Left,
+        left,
+        right,
+        keys,
+        rest: None,
+    }
 }
 
 /// Orders (id BIGINT, region VARCHAR) LEFT JOIN items (order_id BIGINT, price DECIMAL(10,2)) on their numbers.
 fn joined(alloc: Global) -> Result<Logical, Fail> {
+    let keys = Items::from_slice(alloc, &[(0u32, 0u32)])?;
     let left = scan(alloc, 0, &[Kind::Int, Kind::Text])?;
     let right = scan(alloc, 1, &[Kind::Int, PRICE])?;
-    let keys = vec![in alloc; (0u32, 0u32)]?;
-    Ok(Logical::Join {
-        kind: JoinKind::Left,
-        left: Boxed::new(alloc, left)?,
-        right: Boxed::new(alloc, right)?,
-        keys: Items::from_vec(keys),
-        rest: None,
-    })
+    Ok(join(left, right, keys))
 }
 
 fn is_null(alloc: Global, column: u32) -> Result<Expr, Fail> {
     Ok(Expr::IsNull(Boxed::new(alloc, Expr::Column(column))?))
 }
 
-/// `SELECT region, COUNT(*), AVG(price), MIN(id), region IS NULL` of the joined rows whose price is NULL, by region, each once.
-fn body(alloc: Global) -> Result<Logical, Fail> {
-    let filter = Logical::Filter {
-        input: Boxed::new(alloc, joined(alloc)?)?,
-        test: is_null(alloc, 3)?,
-    };
-    let group = Logical::Aggregate {
-        input: Boxed::new(alloc, filter)?,
-        keys: Items::from_slice(alloc, &[1])?,
-        calls: Items::from_slice(
-            alloc,
-            &[AggCall::CountAll, AggCall::Avg(3), AggCall::Min(0)],
-        )?,
-    };
-    let mut items = Vec::new(alloc);
-    for column in 0..4u32 {
-        items.push(Expr::Column(column))?;
-    }
+fn filtered(alloc: Global, input: Logical) -> Result<Logical, Fail> {
+    let test = is_null(alloc, 3)?;
+    let input = Boxed::new(alloc, input)?;
+    Ok(Logical::Filter { input, test })
+}
+
+/// `region, COUNT(*), AVG(price), MIN(id)` by region
+fn grouped(alloc: Global, input: Logical) -> Result<Logical, Fail> {
+    let keys = Items::from_slice(alloc, &[1u32])?;
+    let all = [AggCall::CountAll, AggCall::Avg(3), AggCall::Min(0)];
+    let calls = Items::from_slice(alloc, &all)?;
+    let input = Boxed::new(alloc, input)?;
+    Ok(Logical::Aggregate { input, keys, calls })
+}
+
+/// `region, AVG(price), region IS NULL`
+fn projected(alloc: Global, input: Logical) -> Result<Logical, Fail> {
+    let mut items = Items::new(alloc);
+    items.push(Expr::Column(0))?;
+    items.push(Expr::Column(2))?;
     items.push(is_null(alloc, 0)?)?;
-    let project = Logical::Project {
-        input: Boxed::new(alloc, group)?,
-        items: Items::from_vec(items),
-    };
-    let distinct = Logical::Distinct {
-        input: Boxed::new(alloc, project)?,
-    };
-    Ok(Logical::UnionAll {
-        inputs: Items::from_vec(vec![in alloc; distinct]?),
-    })
+    let input = Boxed::new(alloc, input)?;
+    Ok(Logical::Project { input, items })
+}
+
+fn distinct(alloc: Global, input: Logical) -> Result<Logical, Fail> {
+    let input = Boxed::new(alloc, input)?;
+    Ok(Logical::Distinct { input })
+}
+
+fn union_of(alloc: Global, input: Logical) -> Result<Logical, Fail> {
+    let mut inputs = Items::new(alloc);
+    inputs.push(input)?;
+    Ok(Logical::UnionAll { inputs })
 }
 
 fn check_kinds(rt: &impl Abort, alloc: Global, plan: &Logical, want: &[Kind]) -> Result<(), Fail> {
@@ -83,26 +90,22 @@ fn kinds_of_every_node(rt: HostRuntime) -> Result<(), Fail> {
         precision: 38,
         scale: 6,
     };
-    let of_join = [Kind::Int, Kind::Text, Kind::Int, PRICE];
-    check_kinds(&rt, alloc, &joined(alloc)?, &of_join)?;
-    let of_body = [Kind::Text, Kind::Int, mean, Kind::Int, Kind::Bool];
-    check_kinds(&rt, alloc, &body(alloc)?, &of_body)?;
-    let none = Logical::UnionAll {
-        inputs: Items::new(alloc),
-    };
-    check_kinds(&rt, alloc, &none, &[])?;
-    let sum = Expr::Binary(
-        Op::Add,
-        Boxed::new(alloc, Expr::Column(0))?,
-        Boxed::new(alloc, Expr::Column(3))?,
-    );
-    let sums = Logical::Project {
-        input: Boxed::new(alloc, joined(alloc)?)?,
-        items: Items::from_vec(vec![in alloc; sum]?),
-    };
-    let of_sum = [Kind::Dec {
-        precision: 38,
-        scale: 2,
-    }];
-    check_kinds(&rt, alloc, &sums, &of_sum)
+    let plan = filtered(alloc, joined(alloc)?)?;
+    check_kinds(
+        &rt,
+        alloc,
+        &plan,
+        &[Kind::Int, Kind::Text, Kind::Int, PRICE],
+    )?;
+    let plan = grouped(alloc, plan)?;
+    check_kinds(&rt, alloc, &plan, &[Kind::Text, Kind::Int, mean, Kind::Int])?;
+    let plan = union_of(alloc, distinct(alloc, projected(alloc, plan)?)?)?;
+    check_kinds(&rt, alloc, &plan, &[Kind::Text, mean, Kind::Bool])
+}
+
+#[test]
+fn kinds_of_no_input(rt: HostRuntime) -> Result<(), Fail> {
+    let alloc = rt.alloc();
+    let inputs = Items::new(alloc);
+    check_kinds(&rt, alloc, &Logical::UnionAll { inputs }, &[])
 }

@@ -61,7 +61,48 @@ fn shown(alloc: Global, expr: &Expr, row: &Row) -> Result<String, Fail> {
     Ok(text)
 }
 
-/// Operators of constants, and the same of cells.
+fn check(rt: &impl Abort, alloc: Global, expr: &Expr, row: &Row, want: &str) -> Result<(), Fail> {
+    let text = shown(alloc, expr, row)?;
+    assert_eq!(rt; text.as_str(), want, "{expr:?} over {row:?}");
+    Ok(())
+}
+
+fn row_of(rt: &impl Abort, alloc: Global, kinds: &[Kind], fields: &[&str]) -> Result<Row, Fail> {
+    let mut cells = Vec::new(alloc);
+    for (kind, field) in kinds.iter().zip(fields) {
+        cells.push(value_of(rt, alloc, *kind, field)?)?;
+    }
+    Ok(Row { cells })
+}
+
+fn of_constants(
+    rt: &impl Abort,
+    alloc: Global,
+    op: Op,
+    kinds: &[Kind; 2],
+    fields: &[&str; 2],
+) -> Result<Expr, Fail> {
+    let left = constant(rt, alloc, kinds[0], fields[0])?;
+    let right = constant(rt, alloc, kinds[1], fields[1])?;
+    binary(alloc, op, left, right)
+}
+
+/// An operator of two cells, and of two constants.
+fn check_operator(
+    rt: &impl Abort,
+    alloc: Global,
+    op: Op,
+    kinds: &[Kind; 2],
+    fields: &[&str; 2],
+    want: &str,
+) -> Result<(), Fail> {
+    let row = row_of(rt, alloc, kinds, fields)?;
+    let of_cells = binary(alloc, op, Expr::Column(0), Expr::Column(1))?;
+    check(rt, alloc, &of_cells, &row, want)?;
+    let of_constants = of_constants(rt, alloc, op, kinds, fields)?;
+    check(rt, alloc, &of_constants, &row, want)
+}
+
 fn check_operators(
     rt: &impl Abort,
     alloc: Global,
@@ -70,19 +111,7 @@ fn check_operators(
     cases: &[(&str, Op, &str, &str)],
 ) -> Result<(), Fail> {
     for (left, op, right, want) in cases {
-        let cells = vec![in alloc;
-            value_of(rt, alloc, kind, left)?,
-            value_of(rt, alloc, other, right)?,
-        ]?;
-        let row = Row { cells };
-        let of_cells = binary(alloc, *op, Expr::Column(0), Expr::Column(1))?;
-        let text = shown(alloc, &of_cells, &row)?;
-        assert_eq!(rt; text.as_str(), *want, "{left} {op:?} {right}, cells");
-        let left_constant = constant(rt, alloc, kind, left)?;
-        let right_constant = constant(rt, alloc, other, right)?;
-        let of_constants = binary(alloc, *op, left_constant, right_constant)?;
-        let text = shown(alloc, &of_constants, &row)?;
-        assert_eq!(rt; text.as_str(), *want, "{left} {op:?} {right}, constants");
+        check_operator(rt, alloc, *op, &[kind, other], &[*left, *right], want)?;
     }
     Ok(())
 }
@@ -333,59 +362,106 @@ fn functions_of_one_operand(rt: HostRuntime) -> Result<(), Fail> {
     Ok(())
 }
 
-/// `CASE WHEN c1 <> 0 THEN c0 / c1 ELSE ABS(- c0) END`, `COALESCE(c2, c0 % c1)`, and a test over c0, c1 and c2 that divides.
-fn samples(rt: &impl Abort, alloc: Global) -> Result<Vec<Expr>, Fail> {
+fn of_cells(alloc: Global, op: Op) -> Result<Expr, Fail> {
+    binary(alloc, op, Expr::Column(0), Expr::Column(1))
+}
+
+/// `WHEN c1 <> 0 THEN c0 / c1`
+fn arms(rt: &impl Abort, alloc: Global) -> Result<Items<(Expr, Expr)>, Fail> {
     let zero = constant(rt, alloc, INT, "0")?;
     let test = binary(alloc, Op::Ne, Expr::Column(1), zero)?;
-    let ratio = binary(alloc, Op::Div, Expr::Column(0), Expr::Column(1))?;
-    let arms = vec![in alloc; (test, ratio)]?;
-    let other = Expr::Abs(boxed(alloc, Expr::Neg(cell(alloc, 0)?))?);
-    let guarded = Expr::Case(Items::from_vec(arms), boxed(alloc, other)?);
+    let mut arms = Items::new(alloc);
+    arms.push((test, of_cells(alloc, Op::Div)?))?;
+    Ok(arms)
+}
 
-    let rest = binary(alloc, Op::Rem, Expr::Column(0), Expr::Column(1))?;
-    let parts = vec![in alloc; Expr::Column(2), rest]?;
-    let first = Expr::Coalesce(Items::from_vec(parts));
+/// `ABS(- c0)`
+fn magnitude(alloc: Global) -> Result<Expr, Fail> {
+    let negated = Expr::Neg(cell(alloc, 0)?);
+    Ok(Expr::Abs(boxed(alloc, negated)?))
+}
 
-    let null = Expr::Not(boxed(alloc, Expr::IsNull(cell(alloc, 2)?))?);
-    let length = Expr::Length(boxed(alloc, Expr::Cast(cell(alloc, 0)?, TEXT))?);
-    let ratio = binary(alloc, Op::Div, Expr::Column(0), Expr::Column(1))?;
-    let greater = binary(alloc, Op::Gt, ratio, length)?;
-    let strict = binary(alloc, Op::And, null, greater)?;
-    Ok(vec![in alloc; guarded, first, strict]?)
+/// `CASE WHEN c1 <> 0 THEN c0 / c1 ELSE ABS(- c0) END`
+fn guarded(rt: &impl Abort, alloc: Global) -> Result<Expr, Fail> {
+    let other = boxed(alloc, magnitude(alloc)?)?;
+    Ok(Expr::Case(arms(rt, alloc)?, other))
+}
+
+/// `COALESCE(c2, c0 % c1)`
+fn first_known(alloc: Global) -> Result<Expr, Fail> {
+    let mut parts = Items::new(alloc);
+    parts.push(Expr::Column(2))?;
+    parts.push(of_cells(alloc, Op::Rem)?)?;
+    Ok(Expr::Coalesce(parts))
+}
+
+/// `c0 / c1 > LENGTH(CAST(c0 AS VARCHAR))`
+fn longer(alloc: Global) -> Result<Expr, Fail> {
+    let text = Expr::Cast(cell(alloc, 0)?, TEXT);
+    let length = Expr::Length(boxed(alloc, text)?);
+    binary(alloc, Op::Gt, of_cells(alloc, Op::Div)?, length)
+}
+
+/// `NOT (c2 IS NULL) AND c0 / c1 > LENGTH(CAST(c0 AS VARCHAR))`
+fn strict(alloc: Global) -> Result<Expr, Fail> {
+    let null = Expr::IsNull(cell(alloc, 2)?);
+    let known = Expr::Not(boxed(alloc, null)?);
+    binary(alloc, Op::And, known, longer(alloc)?)
+}
+
+/// The three expressions, and their copies, over each row.
+fn check_rows(
+    rt: &impl Abort,
+    alloc: Global,
+    expr: &Expr,
+    cases: &[([&str; 3], &str)],
+) -> Result<(), Fail> {
+    let copy = copy_expr(alloc, expr)?;
+    for (fields, want) in cases {
+        let row = row_of(rt, alloc, &[INT, INT, INT], fields)?;
+        check(rt, alloc, expr, &row, want)?;
+        check(rt, alloc, &copy, &row, want)?;
+    }
+    Ok(())
 }
 
 #[test]
-fn whole_expressions_and_their_copies(rt: HostRuntime) -> Result<(), Fail> {
+fn case_and_its_copy(rt: HostRuntime) -> Result<(), Fail> {
     let alloc = rt.alloc();
+    let expr = guarded(&rt, alloc)?;
     let cases = &[
-        (["8", "2", ""], ["4", "0", "false"]),
-        (["8", "0", "5"], ["8", "5", "division by zero"]),
-        (
-            ["8", "0", ""],
-            ["8", "division by zero", "division by zero"],
-        ),
-        (
-            ["-9223372036854775808", "0", "1"],
-            ["overflow", "1", "division by zero"],
-        ),
-        (["80", "8", "1"], ["10", "1", "true"]),
-        (["", "8", ""], ["NULL", "NULL", "false"]),
+        (["8", "2", ""], "4"),
+        (["8", "0", ""], "8"),
+        ([LEAST, "0", ""], "overflow"),
+        (["", "8", ""], "NULL"),
     ];
-    let exprs = samples(&rt, alloc)?;
-    for (fields, wants) in cases {
-        let mut cells = Vec::new(alloc);
-        for field in fields {
-            cells.push(value_of(&rt, alloc, INT, field)?)?;
-        }
-        let row = Row { cells };
-        for (expr, want) in exprs.iter().zip(wants) {
-            let text = shown(alloc, expr, &row)?;
-            assert_eq!(rt; text.as_str(), *want, "{expr:?}");
-            let text = shown(alloc, &copy_expr(alloc, expr)?, &row)?;
-            assert_eq!(rt; text.as_str(), *want, "copy of {expr:?}");
-        }
-    }
-    Ok(())
+    check_rows(&rt, alloc, &expr, cases)
+}
+
+#[test]
+fn coalesce_and_its_copy(rt: HostRuntime) -> Result<(), Fail> {
+    let alloc = rt.alloc();
+    let expr = first_known(alloc)?;
+    let cases = &[
+        (["8", "0", "5"], "5"),
+        (["8", "3", ""], "2"),
+        (["8", "0", ""], "division by zero"),
+    ];
+    check_rows(&rt, alloc, &expr, cases)
+}
+
+#[test]
+fn and_and_its_copy(rt: HostRuntime) -> Result<(), Fail> {
+    let alloc = rt.alloc();
+    let expr = strict(alloc)?;
+    let cases = &[
+        (["8", "2", ""], "false"),
+        (["8", "0", ""], "division by zero"),
+        (["80", "8", "1"], "true"),
+        (["", "8", ""], "false"),
+        (["", "8", "1"], "NULL"),
+    ];
+    check_rows(&rt, alloc, &expr, cases)
 }
 
 #[test]
