@@ -9,6 +9,3 @@ pub use dfx_value::{AggCall, JoinKind};
 pub use kinds::kinds_of;
 pub use plan::Logical;
 pub use query::Query;
-
-#[cfg(test)]
-mod tests;

@@ -16,6 +16,3 @@ pub use evaluate::{constant_of, eval};
 pub use expr::Expr;
 pub use kinds::{call_kind, is_kind, kind_of};
 pub use refused::EvalRefused;
-
-#[cfg(test)]
-mod tests;

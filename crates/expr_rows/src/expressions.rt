@@ -3,8 +3,10 @@
 ghost use Rattle.std.specs.Prelude.{◌≡◌, true, IfOk};
 ghost use Rattle.dfx_value.specs.Kinds.{is_kind as is_kind_test};
 
-use super::*;
-use dfx_value::{EvalFault, Kind, ParseRefused, Row, Value, parse_value, push_value};
+use dfx_value::{AggCall, EvalFault, Kind, ParseRefused, Row, Value, parse_value, push_value};
+use scalar_exprs::{
+    EvalRefused, Expr, Op, call_kind, constant_of, copy_expr, eval, is_kind, kind_of,
+};
 use sqlite_items::{Boxed, Items};
 use std::alloc::Global;
 use std::process::Abort;

@@ -1,7 +1,7 @@
 //! The kinds of a body of every node.
 
-use super::*;
-use dfx_value::Kind;
+use dfx_value::{AggCall, JoinKind, Kind};
+use logical_plan::{Logical, kinds_of};
 use scalar_exprs::Expr;
 use sqlite_items::{Boxed, Items};
 use std::alloc::Global;
