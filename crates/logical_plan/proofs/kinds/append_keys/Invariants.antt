@@ -1,4 +1,4 @@
-use Rattle.std.proofs.Common.{◌≡◌, ◌++◌, take, drop}
+use Rattle.std.proofs.Common.{◌≡◌, ◌++◌, drop}
 use Rattle.logical_plan.specs.Body as spec
 use Rattle.logical_plan.proofs.kinds.append_keys.Given as goal
 

@@ -1,5 +1,4 @@
-use Rattle.std.proofs.Common.{◌≡◌, ◌++◌, take, drop}
-use Rattle.logical_plan.specs.Body as spec
+use Rattle.std.proofs.Common.{◌≡◌, ◌++◌, take}
 use Rattle.logical_plan.proofs.kinds.append_kinds.Given as goal
 
 abbrev pub invariant-loop-kind : goal.invariant-loop-kind
