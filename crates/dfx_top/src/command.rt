@@ -1,12 +1,12 @@
 //! The command.
 
-ghost use Rattle.std.specs.Prelude.{◌≡◌, ◌≤◌, ◌≢◌, ◌⊎◌, ℕ, List, true, Ok, Err, Some, None, IfErr, is_ok};
+ghost use Rattle.std.specs.Prelude.{◌≡◌, ◌≤◌, ◌≢◌, ◌⊎◌, ℕ, List, true, false, Ok, Err, Some, None, IfErr, is_ok};
 ghost use Rattle.std.specs.List.{list_all};
 ghost use Rattle.dfx_outside.specs.Causes.{Rose};
 ghost use Rattle.dfx_outside.specs.Bytes.{EndsInFront};
 ghost use Rattle.dfx_outside.specs.Contents.{Contents, content};
 ghost use Rattle.csv_source.specs.CsvItems.{csv_items};
-ghost use Rattle.dfx_top.specs.Answers.{Ended, Reads, Stopped, kinds_of};
+ghost use Rattle.dfx_top.specs.Answers.{Answered, Ended, Reads, Stopped, kinds_of};
 ghost use Rattle.dfx_top.specs.Thin as thin;
 ghost use Rattle.dfx_top.specs.Outcomes.{of_result, status_for, IsLine};
 ghost use Rattle.dfx_top.specs.Words.{script_path as path_of_words};
@@ -42,6 +42,8 @@ fn run<F: Files, K: Sink>(
     ensures ended { (all : Contents) (before : List ℕ) → F.told files.old ≡ Some all → K.told sink.old ≡ Some before → Ended words.now all before (K.told sink.new) (of_result result) }
     ensures bad { (all : Contents) (before : List ℕ) (s : thin.Script) (p : List ℕ) → F.told files.old ≡ Some all → K.told sink.old ≡ Some before
         → Reads words.now all s → result ≡ Err (failure.BadFile p) → (p ≡ s.path) × Stopped all before s (K.told sink.new) }
+    ensures answered { (all : Contents) (before : List ℕ) (s : thin.Script) → F.told files.old ≡ Some all → K.told sink.old ≡ Some before
+        → Reads words.now all s → of_result result ≡ None → Answered all before s (K.told sink.new) }
     ensures words { path_of_words words.now ≡ None → result ≡ Err failure.Words }
     ensures read { result ≡ Err failure.Read → Rose (F.faults files.old) (F.faults files.new) }
     ensures write { result ≡ Err failure.Write → Rose (K.faults sink.old) (K.faults sink.new) }
@@ -94,6 +96,12 @@ pub fn command_here<F: Files, K: Sink, E: Sink>(
         → Reads words.now all s → content all s.path ≡ Some bytes → list_all is_ok (csv_items bytes (kinds_of s)) ≡ true
         → ¬ (Rose (F.faults files) (F.faults result.files)) → ¬ (Rose (F.absences files) (F.absences result.files)) → ¬ (Rose (K.faults sink) (K.faults result.sink))
         → (result.failure ≡ None) ⊎ (result.failure ≡ Some failure.NoMemory) }
+
+    // And its table is refused where a record of it is, on the same terms.
+    ensures bad { (all : Contents) (before : List ℕ) (s : thin.Script) (bytes : List ℕ) → F.told files ≡ Some all → K.told sink ≡ Some before
+        → Reads words.now all s → content all s.path ≡ Some bytes → list_all is_ok (csv_items bytes (kinds_of s)) ≡ false
+        → ¬ (Rose (F.faults files) (F.faults result.files)) → ¬ (Rose (F.absences files) (F.absences result.files)) → ¬ (Rose (K.faults sink) (K.faults result.sink))
+        → (result.failure ≡ Some (failure.BadFile s.path)) ⊎ (result.failure ≡ Some failure.NoMemory) }
 
     // Why, told or not.
     ensures words { path_of_words words.now ≡ None → result.failure ≡ Some failure.Words }

@@ -1,6 +1,6 @@
 use Rattle.std.proofs.Common.{◌≡◌, sym, ◌∙◌, arith}
 use Rattle.dfx_top.specs.declared.thin.ThinRefused.TheVariants as refused
-use Rattle.dfx_top.proofs.CompleteSteps.{same_bytes, bad_of_run}
+use Rattle.dfx_top.proofs.CompleteSteps.{same_bytes, bad_of_run, answered_of_run}
 use Rattle.dfx_top.proofs.CommandSteps.{ended_by_run}
 use Rattle.dfx_top.proofs.command.run.Goals as goal
 
@@ -36,3 +36,9 @@ returns-in-Err-NoScript-clause-ended g c all before told taken = (
         first_of (cc, grind arith);
   },
 )
+
+pub returns-in-Ok-clause-answered : goal.returns-in-Ok-clause-answered
+returns-in-Ok-clause-answered g c all before s told taken reads is =
+    let thin = same_bytes c.args.words.now all s c.in-Some.path.now c.in_ok-bytes.bytes.items reads (sym c.in-Some.ensures) (c.in_ok-bytes.ensures.content all told) in
+    let same = c.in-Ok.ensures.exact s (rw c.deref.ensures.value thin) in
+    answered_of_run c.run_query.result all before c.in-Ok.script s _ (c.run_query.ensures.ran all before (c.in_ok-bytes.ensures.same ∙ told) taken) same is
