@@ -13,7 +13,8 @@ const T: &str = "CREATE EXTERNAL TABLE t (a BIGINT, b VARCHAR) STORED AS CSV LOC
 struct Case {
     shows: &'static str,
     words: &'static [&'static str],
-    /// What follows the declaration in the script `f`; none leaves the file out.
+    /// The script `f`: the declarations, and the query after them; none leaves the file out.
+    tables: &'static str,
     query: Option<&'static str>,
     /// The bytes of `t.csv`; none leaves the file out.
     table: Option<&'static [u8]>,
@@ -28,6 +29,7 @@ struct Case {
 const PLAIN: Case = Case {
     shows: "the first column of two rows",
     words: &["query", "f"],
+    tables: T,
     query: Some("SELECT a FROM t"),
     table: Some(b"a,b\n1,x\n2,\n"),
     failing_reads: &[],
@@ -56,7 +58,7 @@ fn words_of(alloc: Global, case: &Case) -> Result<Vec<Text>, Fail> {
 fn files_of(alloc: Global, case: &Case) -> Result<MemFiles, Fail> {
     let mut files = Vec::new(alloc);
     if let Some(query) = case.query {
-        let mut script = String::from_str(alloc, T)?;
+        let mut script = String::from_str(alloc, case.tables)?;
         script.push_str(query)?;
         files.push((text(alloc, "f")?, bytes(alloc, script.as_str().as_bytes())?))?;
     }
@@ -140,6 +142,48 @@ fn answers(rt: HostRuntime) -> Result<(), Fail> {
             sink: "a\n7\n0\n",
             ..PLAIN
         },
+        Case {
+            shows: "several columns in the written order",
+            query: Some("SELECT b, a FROM t"),
+            sink: "b,a\nx,1\n,2\n",
+            ..PLAIN
+        },
+        Case {
+            shows: "a column under another name, with and without AS",
+            query: Some("SELECT a AS n, b m FROM t"),
+            sink: "n,m\n1,x\n2,\n",
+            ..PLAIN
+        },
+        Case {
+            shows: "a column twice",
+            query: Some("SELECT a, a FROM t"),
+            sink: "a,a\n1,1\n2,2\n",
+            ..PLAIN
+        },
+        Case {
+            shows: "keywords in any case, comments and line ends",
+            query: Some("select A -- all\nfrom\tT\n"),
+            sink: "a\n1\n2\n",
+            ..PLAIN
+        },
+        Case {
+            shows: "a reserved word in quotes is a name, and so is a text with a quote",
+            query: Some("SELECT a AS \"select\", b AS \"x\"\"y\" FROM t"),
+            sink: "select,\"x\"\"y\"\n1,x\n2,\n",
+            ..PLAIN
+        },
+        Case {
+            shows: "a table's alias",
+            query: Some("SELECT a FROM t AS u"),
+            sink: "a\n1\n2\n",
+            ..PLAIN
+        },
+        Case {
+            shows: "a header row is said to be there, which it is anyway",
+            tables: "CREATE EXTERNAL TABLE t (a INT, b TEXT) STORED AS CSV WITH HEADER ROW LOCATION 't.csv';\n",
+            query: Some("SELECT a FROM t"),
+            ..PLAIN
+        },
     ];
     for case in &cases {
         check(&rt, rt.alloc(), case)?;
@@ -199,52 +243,12 @@ fn refusals(rt: HostRuntime) -> Result<(), Fail> {
             ..PLAIN
         },
         Case {
-            shows: "a name that isn't declared",
-            query: Some("SELECT c FROM t"),
-            status: 3,
-            sink: "",
-            err: "dfx: script refused\n",
-            ..PLAIN
-        },
-        Case {
-            shows: "a reserved word",
-            query: Some("SELECT from FROM t"),
-            status: 3,
-            sink: "",
-            err: "dfx: script refused\n",
-            ..PLAIN
-        },
-        Case {
-            shows: "another table",
-            query: Some("SELECT a FROM u"),
-            status: 3,
-            sink: "",
-            err: "dfx: script refused\n",
-            ..PLAIN
-        },
-        Case {
-            shows: "two spaces",
-            query: Some("SELECT  a FROM t"),
-            status: 3,
-            sink: "",
-            err: "dfx: script refused\n",
-            ..PLAIN
-        },
-        Case {
-            shows: "words after the end",
-            query: Some("SELECT a FROM t; "),
-            status: 3,
-            sink: "",
-            err: "dfx: script refused\n",
-            ..PLAIN
-        },
-        Case {
             shows: "the script is read before the table is looked for",
             query: Some("SELECT c FROM t"),
             table: None,
             status: 3,
             sink: "",
-            err: "dfx: script refused\n",
+            err: "dfx: not built\n",
             ..PLAIN
         },
         Case {
@@ -270,7 +274,7 @@ fn failures_in_the_run(rt: HostRuntime) -> Result<(), Fail> {
             table: Some(b"a,b\n1,x\nz,y\n"),
             status: 4,
             sink: "a\n",
-            err: "dfx: file t.csv: csv refused\n",
+            err: "dfx: file t.csv: csv 4 row 2 column 1\n",
             ..PLAIN
         },
         Case {
@@ -278,7 +282,7 @@ fn failures_in_the_run(rt: HostRuntime) -> Result<(), Fail> {
             table: Some(b"a\n1\n"),
             status: 4,
             sink: "a\n",
-            err: "dfx: file t.csv: csv refused\n",
+            err: "dfx: file t.csv: csv 1 row 0 column 0\n",
             ..PLAIN
         },
         Case {
@@ -286,7 +290,7 @@ fn failures_in_the_run(rt: HostRuntime) -> Result<(), Fail> {
             table: Some(b"a,b\n1\n"),
             status: 4,
             sink: "a\n",
-            err: "dfx: file t.csv: csv refused\n",
+            err: "dfx: file t.csv: csv 2 row 1 column 0\n",
             ..PLAIN
         },
         Case {
@@ -294,7 +298,7 @@ fn failures_in_the_run(rt: HostRuntime) -> Result<(), Fail> {
             table: Some(b"a,b\n1,\xff\n"),
             status: 4,
             sink: "a\n",
-            err: "dfx: file t.csv: csv refused\n",
+            err: "dfx: file t.csv: csv 3 row 1 column 0\n",
             ..PLAIN
         },
         Case {
@@ -324,6 +328,144 @@ fn failures_in_the_run(rt: HostRuntime) -> Result<(), Fail> {
     ];
     for case in &cases {
         check(&rt, rt.alloc(), case)?;
+    }
+    Ok(())
+}
+
+#[test]
+fn scripts_that_are_none(rt: HostRuntime) -> Result<(), Fail> {
+    let cases = [
+        Case {
+            shows: "a character that begins no token",
+            tables: "",
+            query: Some("SELECT ?"),
+            status: 3,
+            sink: "",
+            err: "dfx: sql lexer at 7\n",
+            ..PLAIN
+        },
+        Case {
+            shows: "a quote without its end",
+            query: Some("SELECT 'a FROM t"),
+            status: 3,
+            sink: "",
+            err: "dfx: sql lexer at 85\n",
+            ..PLAIN
+        },
+        Case {
+            shows: "a select without an item",
+            tables: "",
+            query: Some("SELECT FROM t"),
+            status: 3,
+            sink: "",
+            err: "dfx: sql syntax at 7\n",
+            ..PLAIN
+        },
+        Case {
+            shows: "a reserved word",
+            query: Some("SELECT from FROM t"),
+            status: 3,
+            sink: "",
+            err: "dfx: sql syntax at 85\n",
+            ..PLAIN
+        },
+        Case {
+            shows: "words after the end",
+            query: Some("SELECT a FROM t; SELECT"),
+            status: 3,
+            sink: "",
+            err: "dfx: sql syntax at 95\n",
+            ..PLAIN
+        },
+        Case {
+            shows: "a script that ends too early",
+            query: Some("SELECT a FROM"),
+            status: 3,
+            sink: "",
+            err: "dfx: sql syntax at 91\n",
+            ..PLAIN
+        },
+        Case {
+            shows: "the lexer comes before the parser",
+            query: Some("SELECT FROM ?"),
+            status: 3,
+            sink: "",
+            err: "dfx: sql lexer at 90\n",
+            ..PLAIN
+        },
+    ];
+    for case in &cases {
+        check(&rt, rt.alloc(), case)?;
+    }
+    Ok(())
+}
+
+#[test]
+fn scripts_that_are_not_built(rt: HostRuntime) -> Result<(), Fail> {
+    let cases = [
+        ("a name that isn't declared", T, "SELECT c FROM t"),
+        ("another table", T, "SELECT a FROM u"),
+        ("an expression", T, "SELECT a + 1 FROM t"),
+        ("a name with its table", T, "SELECT t.a FROM t"),
+        ("all columns", T, "SELECT * FROM t"),
+        ("DISTINCT", T, "SELECT DISTINCT a FROM t"),
+        ("WHERE", T, "SELECT a FROM t WHERE a = 1"),
+        ("GROUP BY", T, "SELECT a FROM t GROUP BY a"),
+        ("HAVING", T, "SELECT a FROM t HAVING a = 1"),
+        ("ORDER BY", T, "SELECT a FROM t ORDER BY a"),
+        ("LIMIT", T, "SELECT a FROM t LIMIT 1"),
+        ("OFFSET", T, "SELECT a FROM t OFFSET 0"),
+        ("a join", T, "SELECT a FROM t JOIN t AS u ON t.a = u.a"),
+        ("a union", T, "SELECT a FROM t UNION ALL SELECT a FROM t"),
+        ("a derived table", T, "SELECT a FROM (SELECT a FROM t) AS u"),
+        ("no table", "", "SELECT a FROM t"),
+        (
+            "two tables",
+            "CREATE EXTERNAL TABLE t (a INT) STORED AS CSV LOCATION 't.csv'; CREATE EXTERNAL TABLE u (a INT) STORED AS CSV LOCATION 't.csv'; ",
+            "SELECT a FROM t",
+        ),
+        (
+            "an Arrow table",
+            "CREATE EXTERNAL TABLE t (a INT) STORED AS ARROW LOCATION 't.csv'; ",
+            "SELECT a FROM t",
+        ),
+        (
+            "a decimal column",
+            "CREATE EXTERNAL TABLE t (a DECIMAL(3,2), b TEXT) STORED AS CSV LOCATION 't.csv'; ",
+            "SELECT a FROM t",
+        ),
+        (
+            "a column's name twice",
+            "CREATE EXTERNAL TABLE t (a INT, a TEXT) STORED AS CSV LOCATION 't.csv'; ",
+            "SELECT a FROM t",
+        ),
+        (
+            "a folder",
+            "CREATE EXTERNAL TABLE t (a INT, b TEXT) STORED AS CSV LOCATION 'g/'; ",
+            "SELECT a FROM t",
+        ),
+        (
+            "an empty location",
+            "CREATE EXTERNAL TABLE t (a INT, b TEXT) STORED AS CSV LOCATION ''; ",
+            "SELECT a FROM t",
+        ),
+        (
+            "an option",
+            "CREATE EXTERNAL TABLE t (a INT, b TEXT) STORED AS CSV LOCATION 't.csv' OPTIONS ('has_header' 'true'); ",
+            "SELECT a FROM t",
+        ),
+    ];
+    for (shows, tables, query) in &cases {
+        let case = Case {
+            shows: *shows,
+            tables: *tables,
+            query: Some(*query),
+            status: 3,
+            sink: "",
+            err: "dfx: not built\n",
+            ..PLAIN
+        };
+        check(&rt, rt.alloc(), &case)?;
     }
     Ok(())
 }

@@ -1,8 +1,6 @@
-pub mod ThinSteps
-pub mod ExactSteps
-pub mod ExactColumns
 pub mod FaultSteps
-pub mod RunSteps
 pub mod QuerySteps
-pub mod CommandSteps
-pub mod CompleteSteps
+pub mod ScriptSteps
+pub mod RunSteps
+pub mod RunEnds
+pub mod CommandEnds

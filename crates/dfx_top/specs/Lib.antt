@@ -1,8 +1,8 @@
-pub mod Names
 pub mod Words
 pub mod Failures
-pub mod Thin
-pub mod Exact
 pub mod Outcomes
+pub mod Queries
+pub mod Found
 pub mod Runs
+pub mod Asked
 pub mod Answers

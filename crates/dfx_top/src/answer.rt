@@ -1,10 +1,12 @@
 //! The rows of a table, written batch by batch.
 
-ghost use Rattle.std.specs.Prelude.{◌≡◌, ◌<◌, ◌≤◌, ℕ, List, true, false, length, Ok, Err, Some, IfOk, OnOk, OnErr};
+ghost use Rattle.std.specs.Prelude.{◌≡◌, ◌<◌, ◌≤◌, ℕ, All, List, true, false, length, Ok, Err, Some, IfOk, OnOk, OnErr};
 ghost use Rattle.dfx_outside.specs.Causes.{Rose};
 ghost use Rattle.csv_source.specs.CsvItems.{Item};
 ghost use Rattle.csv_source.specs.ScanView.{left_count};
-ghost use Rattle.dfx_top.specs.Runs.{of_scan, of_sink, Wrote, WroteAll, WroteBefore, WrotePart};
+ghost use Rattle.csv_source.specs.declared.refused.CsvRefused.{CsvRefused};
+ghost use Rattle.dfx_top.specs.Outcomes.{of_scan, of_sink};
+ghost use Rattle.dfx_top.specs.Runs.{Wrote, WroteAll, WroteBefore, WrotePart};
 ghost use Rattle.dfx_top.specs.declared.answer.RunRefused.TheVariants as refused;
 
 use csv_source::{CsvRefused, CsvScan};
@@ -19,7 +21,7 @@ const BATCH: u32 = 8192;
 #[derive(Clone, Copy, Debug, PartialEq, Eq)]
 pub enum RunRefused {
     /// The file is refused.
-    Bad,
+    Bad(CsvRefused),
     /// The source failed.
     Read,
     /// The sink failed.
@@ -32,15 +34,9 @@ pub fn scan_refused(refused: CsvRefused) -> RunRefused
     ensures { result ≡ of_scan refused }
 {
     match refused {
-        CsvRefused::Header { fields: _ }
-        | CsvRefused::Fields { number: _ }
-        | CsvRefused::NotUtf8 { number: _ } => RunRefused::Bad,
-        CsvRefused::Value {
-            number: _,
-            column: _,
-        } => RunRefused::Bad,
         CsvRefused::Read => RunRefused::Read,
         CsvRefused::NoMemory => RunRefused::NoMemory,
+        _ => RunRefused::Bad(refused),
     }
 }
 
@@ -54,21 +50,21 @@ pub fn sink_refused(refused: OutsideRefused) -> RunRefused
     }
 }
 
-/// Writes one column of the next batch, and tells whether rows may be left.
+/// Writes some columns of the next batch, and tells whether rows may be left.
 #[tactic(auto, using(crate::proofs::RunSteps::run_steps))]
 fn write_batch<S: Source, K: Sink>(
     alloc: Global,
-    column: u32,
+    columns: &[u32],
     scan: &mut CsvScan<S>,
     sink: &mut K,
 ) -> Result<bool, RunRefused>
     requires going { scan.old.refused ≡ false }
-    requires column { column < length scan.old.kinds }
+    requires columns { All (λ c. c < length scan.old.kinds) columns.now }
 
-    ensures more { (items : List Item) (before : List ℕ) → Wrote column items before scan.old.left (K.told sink.old) → result ≡ Ok true → Wrote column items before scan.new.left (K.told sink.new) }
-    ensures last { (items : List Item) (before : List ℕ) → Wrote column items before scan.old.left (K.told sink.old) → result ≡ Ok false → WroteAll column items before (K.told sink.new) }
-    ensures bad { (items : List Item) (before : List ℕ) → Wrote column items before scan.old.left (K.told sink.old) → result ≡ Err refused.Bad → WroteBefore column items before (K.told sink.new) }
-    ensures part { (items : List Item) (before : List ℕ) → Wrote column items before scan.old.left (K.told sink.old) → OnErr result (WrotePart column items before (K.told sink.new)) }
+    ensures more { (items : List Item) (before : List ℕ) → Wrote columns.now items before scan.old.left (K.told sink.old) → result ≡ Ok true → Wrote columns.now items before scan.new.left (K.told sink.new) }
+    ensures last { (items : List Item) (before : List ℕ) → Wrote columns.now items before scan.old.left (K.told sink.old) → result ≡ Ok false → WroteAll columns.now items before (K.told sink.new) }
+    ensures bad { (items : List Item) (before : List ℕ) → Wrote columns.now items before scan.old.left (K.told sink.old) → (e : CsvRefused) → result ≡ Err (refused.Bad e) → WroteBefore columns.now items before e (K.told sink.new) }
+    ensures part { (items : List Item) (before : List ℕ) → Wrote columns.now items before scan.old.left (K.told sink.old) → OnErr result (WrotePart columns.now items before (K.told sink.new)) }
 
     ensures going { OnOk result (scan.new.refused ≡ false) }
     ensures falls { result ≡ Ok true → left_count scan.new.left < left_count scan.old.left }
@@ -81,7 +77,7 @@ fn write_batch<S: Source, K: Sink>(
         Ok(batch) => batch,
         Err(refused) => return Err(scan_refused(refused)),
     };
-    let Ok(text) = rows_text(alloc, &batch, &[column]) else {
+    let Ok(text) = rows_text(alloc, &batch, columns) else {
         return Err(RunRefused::NoMemory);
     };
     match write_all(sink, text.as_slice()) {
@@ -90,20 +86,20 @@ fn write_batch<S: Source, K: Sink>(
     }
 }
 
-/// Writes one column of all rows that a scan has left, batch by batch. After a refusal of the file the rows before its
+/// Writes some columns of all rows that a scan has left, batch by batch. After a refusal of the file the rows before its
 /// batch were written.
 pub fn write_rows<S: Source, K: Sink>(
     alloc: Global,
-    column: u32,
+    columns: &[u32],
     scan: &mut CsvScan<S>,
     sink: &mut K,
 ) -> Result<(), RunRefused>
     requires going { scan.old.refused ≡ false }
-    requires column { column < length scan.old.kinds }
+    requires columns { All (λ c. c < length scan.old.kinds) columns.now }
 
-    ensures all { (items : List Item) (before : List ℕ) → scan.old.left ≡ Some items → K.told sink.old ≡ Some before → OnOk result (WroteAll column items before (K.told sink.new)) }
-    ensures bad { (items : List Item) (before : List ℕ) → scan.old.left ≡ Some items → K.told sink.old ≡ Some before → result ≡ Err refused.Bad → WroteBefore column items before (K.told sink.new) }
-    ensures part { (items : List Item) (before : List ℕ) → scan.old.left ≡ Some items → K.told sink.old ≡ Some before → OnErr result (WrotePart column items before (K.told sink.new)) }
+    ensures all { (items : List Item) (before : List ℕ) → scan.old.left ≡ Some items → K.told sink.old ≡ Some before → OnOk result (WroteAll columns.now items before (K.told sink.new)) }
+    ensures bad { (items : List Item) (before : List ℕ) → scan.old.left ≡ Some items → K.told sink.old ≡ Some before → (e : CsvRefused) → result ≡ Err (refused.Bad e) → WroteBefore columns.now items before e (K.told sink.new) }
+    ensures part { (items : List Item) (before : List ℕ) → scan.old.left ≡ Some items → K.told sink.old ≡ Some before → OnErr result (WrotePart columns.now items before (K.told sink.new)) }
 
     ensures read { result ≡ Err refused.Read → Rose (S.faults scan.old.source) (S.faults scan.new.source) }
     ensures write { result ≡ Err refused.Write → Rose (K.faults sink.old) (K.faults sink.new) }
@@ -111,7 +107,7 @@ pub fn write_rows<S: Source, K: Sink>(
 {
     let mut more = true;
     while more {
-        more = write_batch(alloc, column, scan, sink)?;
+        more = write_batch(alloc, columns, scan, sink)?;
     }
     Ok(())
 }

@@ -1,21 +1,19 @@
 //! The command.
 
-ghost use Rattle.std.specs.Prelude.{◌≡◌, ◌≤◌, ◌≢◌, ◌⊎◌, ℕ, List, true, false, Ok, Err, Some, None, IfErr, is_ok};
-ghost use Rattle.std.specs.List.{list_all};
+ghost use Rattle.std.specs.Prelude.{◌≡◌, ◌⊎◌, ℕ, List, Err, Some, None};
 ghost use Rattle.dfx_outside.specs.Causes.{Rose};
 ghost use Rattle.dfx_outside.specs.Bytes.{EndsInFront};
-ghost use Rattle.dfx_outside.specs.Contents.{Contents, content};
-ghost use Rattle.csv_source.specs.CsvItems.{csv_items};
-ghost use Rattle.dfx_top.specs.Answers.{Answered, Ended, Reads, Stopped, kinds_of};
-ghost use Rattle.dfx_top.specs.Thin as thin;
-ghost use Rattle.dfx_top.specs.Outcomes.{of_result, status_for, IsLine};
+ghost use Rattle.dfx_outside.specs.Contents.{Contents};
+ghost use Rattle.dfx_top.specs.Answers.{Ended};
+ghost use Rattle.dfx_top.specs.Asked as spec;
+ghost use Rattle.dfx_top.specs.Outcomes.{of_result, status_for, IsCalledFor, IsLine};
 ghost use Rattle.dfx_top.specs.Words.{script_path as path_of_words};
 ghost use Rattle.dfx_top.specs.declared.failure.Failure.TheVariants as failure;
 
 use crate::failure::{Failure, failure_line, status_of};
 use crate::files::read_file;
-use crate::query::run_query;
-use crate::thin::{ThinRefused, read_thin};
+use crate::run::run_query;
+use crate::script::query_of_text;
 use crate::words::script_path;
 use dfx_outside::{Files, Sink, write_all};
 use dfx_value::Text;
@@ -32,7 +30,7 @@ pub struct Finished<F, K, E> {
     pub failure: Option<Failure>,
 }
 
-/// Reads the script that the words name, and runs it.
+/// Reads the script that the words name, and runs its query.
 fn run<F: Files, K: Sink>(
     alloc: Global,
     words: &[Text],
@@ -40,11 +38,9 @@ fn run<F: Files, K: Sink>(
     sink: &mut K,
 ) -> Result<(), Failure>
     ensures ended { (all : Contents) (before : List ℕ) → F.told files.old ≡ Some all → K.told sink.old ≡ Some before → Ended words.now all before (K.told sink.new) (of_result result) }
-    ensures bad { (all : Contents) (before : List ℕ) (s : thin.Script) (p : List ℕ) → F.told files.old ≡ Some all → K.told sink.old ≡ Some before
-        → Reads words.now all s → result ≡ Err (failure.BadFile p) → (p ≡ s.path) × Stopped all before s (K.told sink.new) }
-    ensures answered { (all : Contents) (before : List ℕ) (s : thin.Script) → F.told files.old ≡ Some all → K.told sink.old ≡ Some before
-        → Reads words.now all s → of_result result ≡ None → Answered all before s (K.told sink.new) }
+    ensures called { (all : Contents) (before : List ℕ) → F.told files.old ≡ Some all → K.told sink.old ≡ Some before → IsCalledFor (spec.refused words.now all) (of_result result) }
     ensures words { path_of_words words.now ≡ None → result ≡ Err failure.Words }
+    ensures words_only { result ≡ Err failure.Words → path_of_words words.now ≡ None }
     ensures read { result ≡ Err failure.Read → Rose (F.faults files.old) (F.faults files.new) }
     ensures write { result ≡ Err failure.Write → Rose (K.faults sink.old) (K.faults sink.new) }
     ensures missing { (p : List ℕ) → result ≡ Err (failure.Missing p) → Rose (F.absences files.old) (F.absences files.new) }
@@ -53,12 +49,9 @@ fn run<F: Files, K: Sink>(
     let Some(path) = script_path(words) else {
         return Err(Failure::Words);
     };
-    let bytes = read_file(alloc, files, path)?;
-    match read_thin(alloc, &bytes) {
-        Ok(script) => run_query(alloc, &script, files, sink),
-        Err(ThinRefused::NoScript) => Err(Failure::Script),
-        Err(ThinRefused::NoMemory) => Err(Failure::NoMemory),
-    }
+    let text = read_file(alloc, files, path)?;
+    let query = query_of_text(alloc, &text)?;
+    run_query(alloc, query, files, sink)
 }
 
 /// Writes a line, as far as the sink takes it.
@@ -77,8 +70,8 @@ fn report<E: Sink>(alloc: Global, failure: &Failure, err: &mut E)
     }
 }
 
-/// Runs a command. The words are `query FILE`; the script at that path names one CSV table and selects one of its
-/// columns, which is written to the sink as CSV text. A failure is written to `err` as one line. All that was handed in
+/// Runs a command. The words are `query FILE`; the script at that path names one CSV table and selects some of its
+/// columns, which are written to the sink as CSV text. A failure is written to `err` as one line. All that was handed in
 /// comes back, with every file closed.
 pub fn command_here<F: Files, K: Sink, E: Sink>(
     alloc: Global,
@@ -87,24 +80,21 @@ pub fn command_here<F: Files, K: Sink, E: Sink>(
     mut sink: K,
     mut err: E,
 ) -> Finished<F, K, E>
-    // How it ended, where the files and the sink tell their bytes: what was written, and why there is no answer.
+    // What was written, by how it ended, where the files and the sink tell their bytes.
     ensures ended { (all : Contents) (before : List ℕ) → F.told files ≡ Some all → K.told sink ≡ Some before → Ended words.now all before (K.told result.sink) result.failure }
 
-    // A thin script whose table is there and has no refused record is answered, where no fault and no absence is counted,
-    // but for want of memory.
-    ensures complete { (all : Contents) (before : List ℕ) (s : thin.Script) (bytes : List ℕ) → F.told files ≡ Some all → K.told sink ≡ Some before
-        → Reads words.now all s → content all s.path ≡ Some bytes → list_all is_ok (csv_items bytes (kinds_of s)) ≡ true
-        → ¬ (Rose (F.faults files) (F.faults result.files)) → ¬ (Rose (F.absences files) (F.absences result.files)) → ¬ (Rose (K.faults sink) (K.faults result.sink))
-        → (result.failure ≡ None) ⊎ (result.failure ≡ Some failure.NoMemory) }
+    // Why it ended so: it fails with the refusal that the words and the files call for, and is answered where they call for
+    // none, unless an object failed or memory was wanting.
+    ensures called { (all : Contents) (before : List ℕ) → F.told files ≡ Some all → K.told sink ≡ Some before → IsCalledFor (spec.refused words.now all) result.failure }
 
-    // And its table is refused where a record of it is, on the same terms.
-    ensures bad { (all : Contents) (before : List ℕ) (s : thin.Script) (bytes : List ℕ) → F.told files ≡ Some all → K.told sink ≡ Some before
-        → Reads words.now all s → content all s.path ≡ Some bytes → list_all is_ok (csv_items bytes (kinds_of s)) ≡ false
-        → ¬ (Rose (F.faults files) (F.faults result.files)) → ¬ (Rose (F.absences files) (F.absences result.files)) → ¬ (Rose (K.faults sink) (K.faults result.sink))
-        → (result.failure ≡ Some (failure.BadFile s.path)) ⊎ (result.failure ≡ Some failure.NoMemory) }
+    // So where neither count of faults rose, that refusal alone or want of memory comes, or the answer where there is none.
+    ensures exact { (all : Contents) (before : List ℕ) → F.told files ≡ Some all → K.told sink ≡ Some before
+        → ¬ (Rose (F.faults files) (F.faults result.files)) → ¬ (Rose (K.faults sink) (K.faults result.sink))
+        → (result.failure ≡ spec.refused words.now all) ⊎ (result.failure ≡ Some failure.NoMemory) }
 
-    // Why, told or not.
+    // Told or not: refused words, exactly; and what failed where an object is said to have failed or to lack a path.
     ensures words { path_of_words words.now ≡ None → result.failure ≡ Some failure.Words }
+    ensures words_only { result.failure ≡ Some failure.Words → path_of_words words.now ≡ None }
     ensures read { result.failure ≡ Some failure.Read → Rose (F.faults files) (F.faults result.files) }
     ensures write { result.failure ≡ Some failure.Write → Rose (K.faults sink) (K.faults result.sink) }
     ensures missing { (p : List ℕ) → result.failure ≡ Some (failure.Missing p) → Rose (F.absences files) (F.absences result.files) }

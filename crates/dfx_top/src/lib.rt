@@ -5,9 +5,9 @@ mod answer;
 mod command;
 mod failure;
 mod files;
-mod names;
 mod query;
-mod thin;
+mod run;
+mod script;
 mod words;
 
 pub use command::{Finished, command_here};

@@ -11,8 +11,8 @@ invariant-loop-more g l = record {
   kinds : l.scan.kinds ≡ l.fn.scan.kinds;
   read : g.S.Source.faults l.fn.scan.source ≤ g.S.Source.faults l.scan.source;
   write : g.K.Sink.faults l.fn.sink ≤ g.K.Sink.faults l.sink;
-  more : l.more ≡ true → (items : List Item) (before : List ℕ) → l.fn.scan.left ≡ Some items → g.K.Sink.told l.fn.sink ≡ Some before → Wrote l.column items before l.scan.left (g.K.Sink.told l.sink);
-  last : l.more ≡ false → (items : List Item) (before : List ℕ) → l.fn.scan.left ≡ Some items → g.K.Sink.told l.fn.sink ≡ Some before → WroteAll l.column items before (g.K.Sink.told l.sink);
+  more : l.more ≡ true → (items : List Item) (before : List ℕ) → l.fn.scan.left ≡ Some items → g.K.Sink.told l.fn.sink ≡ Some before → Wrote l.columns items before l.scan.left (g.K.Sink.told l.sink);
+  last : l.more ≡ false → (items : List Item) (before : List ℕ) → l.fn.scan.left ≡ Some items → g.K.Sink.told l.fn.sink ≡ Some before → WroteAll l.columns items before (g.K.Sink.told l.sink);
 }
 
 abbrev pub decreases-loop-more : goal.decreases-loop-more

@@ -1,4 +1,4 @@
-use Rattle.dfx_top.proofs.CommandSteps.{line_taken}
+use Rattle.dfx_top.proofs.CommandEnds.{line_taken}
 use Rattle.dfx_top.proofs.command.write_line.Goals as goal
 
 pub returns : goal.returns

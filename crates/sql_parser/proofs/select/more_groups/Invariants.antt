@@ -1,0 +1,11 @@
+use Rattle.std.proofs.Common.{◌≡◌, ◌-◌}
+use Rattle.sql_parser.specs.declared.class.Class.TheVariants as class
+use Rattle.sql_parser.specs.Grammar.{one}
+use Rattle.sql_parser.specs.Reader.{up_to}
+use Rattle.sql_parser.specs.Reading as spec
+use Rattle.sql_parser.specs.Reading.{expr_first, item_first, join_first, behind, full}
+use Rattle.sql_parser.specs.Cursors.{lim, below}
+use Rattle.sql_parser.proofs.select.more_groups.Given as goal
+
+abbrev pub invariant-loop-turn : goal.invariant-loop-turn
+invariant-loop-turn l = up_to (one class.Comma) (behind (spec.item_of (spec.whole lim l.depth (below l.depth)))) (full expr_first) (255 - l._turn) l.found l.cursor.counted l.cursor.tokens ≡ spec.listing expr_first (spec.item_of (spec.whole lim l.depth (below l.depth))) 255 l.fn.found l.fn.cursor.counted l.fn.cursor.tokens
