@@ -1,0 +1,2 @@
+pub mod Distribute
+pub mod Spread

@@ -1,0 +1,24 @@
+ghost use Rattle.std.specs.Prelude.{ℕ, List, Option};
+ghost use Rattle.dfx_value.specs.declared.rows.SortKey.{SortKey as Key};
+ghost use Rattle.logical_plan.specs.declared.query.Query.{Query as AQuery};
+ghost use Rattle.physical_plan.specs.declared.plan.Plan.{Plan as APlan};
+ghost use Rattle.physical_plan.specs.Plain.{IsBody, sorted_by, limited};
+ghost use Rattle.physical_plan.specs.Planned.{IsFinished};
+ghost use Rattle.physical_build.specs.Build.{build};
+ghost use Rattle.physical_build.specs.Planned.{IsPlanned};
+ghost use Rattle.enforce_dist.specs.Distribute.{enforce_distribution};
+ghost use Rattle.enforce_sort.specs.Arrange.{enforce_sorting};
+
+/// The enforcement of distribution and then that of sorting finish every plain plan: the plan of a body, below a sort and a limit
+/// where they are asked for.
+pub fn finished_law()
+    ensures { (body : APlan) (order : List Key) (skip : ℕ) (fetch : Option ℕ) (n : ℕ) → IsBody body
+        → IsFinished (limited skip fetch (sorted_by order body)) order n
+        (enforce_sorting (enforce_distribution (limited skip fetch (sorted_by order body)) n)) }
+{}
+
+/// What `build`, then the enforcement of distribution and then that of sorting give for a query is a finished plan of it.
+pub fn planned_law()
+    ensures { (q : AQuery) (files : List ℕ) (n : ℕ)
+        → IsPlanned q files (enforce_sorting (enforce_distribution (build q files n) n)) n }
+{}

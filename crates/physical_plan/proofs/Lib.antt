@@ -1,0 +1,14 @@
+pub mod Nodes
+pub mod ExprFacts
+pub mod Everywhere
+pub mod Counts
+pub mod Shapes
+pub mod Meetings
+pub mod Filters
+pub mod Others
+pub mod Renamings
+pub mod Sums
+pub mod PartitionCounts
+pub mod Countings
+pub mod Tops
+pub mod Weaker
