@@ -469,3 +469,57 @@ fn scripts_that_are_not_built(rt: HostRuntime) -> Result<(), Fail> {
     }
     Ok(())
 }
+
+/// The line of the script `SELECT`, `open` so many times, `a`, `behind` so many times, `FROM t`.
+fn line_of(alloc: Global, open: &str, behind: &str, times: usize) -> Result<MemSink, Fail> {
+    let mut script = String::from_str(alloc, T)?;
+    script.push_str("SELECT ")?;
+    for _time in 0..times {
+        script.push_str(open)?;
+    }
+    script.push_str("a")?;
+    for _time in 0..times {
+        script.push_str(behind)?;
+    }
+    script.push_str(" FROM t")?;
+    let mut files = Vec::new(alloc);
+    files.push((text(alloc, "f")?, bytes(alloc, script.as_str().as_bytes())?))?;
+    let files = MemFiles::new(alloc, files, Vec::new(alloc));
+    let words = words_of(alloc, &PLAIN)?;
+    let sink = MemSink::new(alloc, Vec::new(alloc));
+    let err = MemSink::new(alloc, Vec::new(alloc));
+    Ok(command_here(alloc, &words, files, sink, err).err)
+}
+
+#[test]
+fn limits_of_the_grammar(rt: HostRuntime) -> Result<(), Fail> {
+    let cases = [
+        ("1,024 operators", "", " + a", 1024, "dfx: not built\n"),
+        (
+            "1,025, refused at the last",
+            "",
+            " + a",
+            1025,
+            "dfx: sql syntax at 4183\n",
+        ),
+        (
+            "64 levels, which leave no node",
+            "(",
+            ")",
+            64,
+            "dfx: file t.csv: missing\n",
+        ),
+        (
+            "65, refused at the last",
+            "(",
+            ")",
+            65,
+            "dfx: sql syntax at 149\n",
+        ),
+    ];
+    for (shows, open, behind, times, line) in &cases {
+        let err = line_of(rt.alloc(), open, behind, *times)?;
+        assert!(&rt; err.bytes() == line.as_bytes(), "line: {shows}");
+    }
+    Ok(())
+}
