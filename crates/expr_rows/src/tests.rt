@@ -53,24 +53,18 @@ fn a_zero_divisor(rt: HostRuntime) -> Result<(), Fail> {
     Ok(())
 }
 
+fn scan(alloc: Global) -> Result<Logical, Fail> {
+    let kinds = Items::from_slice(alloc, &[Kind::Int, Kind::Text])?;
+    Ok(Logical::Scan { table: 0, kinds })
+}
+
 #[test]
-fn kinds_of_a_projection(rt: HostRuntime) -> Result<(), Fail> {
-    let alloc = rt.alloc();
-    let scan = Logical::Scan {
-        table: 0,
-        kinds: Items::from_slice(alloc, &[Kind::Int, Kind::Text])?,
-    };
-    let mut items = Vec::new(alloc);
-    items.push(Expr::Column(1))?;
-    items.push(operated(alloc, Op::Lt, 5)?)?;
-    let plan = Logical::Project {
-        input: Boxed::new(alloc, scan)?,
-        items: Items::from_vec(items),
-    };
-    let kinds = kinds_of(alloc, &plan)?;
+fn kinds_of_a_scan(rt: HostRuntime) -> Result<(), Fail> {
+    let plan = scan(rt.alloc())?;
+    let kinds = kinds_of(rt.alloc(), &plan)?;
     assert!(&rt;
-        matches!(kinds.as_slice(), [Kind::Text, Kind::Bool]),
-        "a column and a comparison"
+        matches!(kinds.as_slice(), [Kind::Int, Kind::Text]),
+        "the table's"
     );
     Ok(())
 }
