@@ -17,32 +17,40 @@ const ASCENDING: SortKey = SortKey {
     nulls_first: false,
 };
 
-/// Text b and the number of rows of each, of a table (a BIGINT, b VARCHAR).
-fn grouped(alloc: Global) -> Result<Logical, Fail> {
-    let scan = Logical::Scan {
-        table: 0,
-        kinds: Items::from_slice(alloc, &[Kind::Int, Kind::Text])?,
-    };
+/// Of a table (a BIGINT, b VARCHAR).
+fn scan(alloc: Global) -> Result<Boxed<Logical>, Fail> {
+    let kinds = Items::from_slice(alloc, &[Kind::Int, Kind::Text])?;
+    Ok(Boxed::new(alloc, Logical::Scan { table: 0, kinds })?)
+}
+
+/// Column b alone.
+fn projected(alloc: Global, input: Boxed<Logical>) -> Result<Boxed<Logical>, Fail> {
     let mut items = Vec::new(alloc);
     items.push(Expr::Column(1))?;
-    let project = Logical::Project {
-        input: Boxed::new(alloc, scan)?,
-        items: Items::from_vec(items),
-    };
-    Ok(Logical::Aggregate {
-        input: Boxed::new(alloc, project)?,
-        keys: Items::from_slice(alloc, &[0])?,
-        calls: Items::from_slice(alloc, &[AggCall::CountAll])?,
-    })
+    let items = Items::from_vec(items);
+    Ok(Boxed::new(alloc, Logical::Project { input, items })?)
+}
+
+/// The number of rows of each b.
+fn grouped(alloc: Global, input: Boxed<Logical>) -> Result<Logical, Fail> {
+    let keys = Items::from_slice(alloc, &[0])?;
+    let calls = Items::from_slice(alloc, &[AggCall::CountAll])?;
+    Ok(Logical::Aggregate { input, keys, calls })
+}
+
+fn body(alloc: Global) -> Result<Logical, Fail> {
+    let input = projected(alloc, scan(alloc)?)?;
+    grouped(alloc, input)
 }
 
 /// `SELECT b, COUNT(*) FROM t GROUP BY b ORDER BY b`
 fn query(alloc: Global) -> Result<Query, Fail> {
     let names: Vec<Text> = Vec::new(alloc);
+    let order = vec![in alloc; ASCENDING]?;
     Ok(Query {
         names: Seq::from_vec(names),
-        body: grouped(alloc)?,
-        order: Seq::from_vec(vec![in alloc; ASCENDING]?),
+        body: body(alloc)?,
+        order: Seq::from_vec(order),
         offset: 0,
         limit: None,
     })
@@ -70,7 +78,7 @@ fn the_plan_of_a_grouping(rt: HostRuntime) -> Result<(), Fail> {
 
 #[test]
 fn what_it_declares(rt: HostRuntime) -> Result<(), Fail> {
-    let plan = copy_plan(rt.alloc(), &finished(rt.alloc())?)?;
+    let plan = finished(rt.alloc())?;
     let declared = props(rt.alloc(), &plan)?;
     assert!(&rt;
         matches!(&declared.partitioning, Partitioning::Single),
@@ -84,12 +92,20 @@ fn what_it_declares(rt: HostRuntime) -> Result<(), Fail> {
 }
 
 #[test]
+fn its_copy(rt: HostRuntime) -> Result<(), Fail> {
+    let plan = finished(rt.alloc())?;
+    let copy = copy_plan(rt.alloc(), &plan)?;
+    assert!(&rt;
+        matches!(&copy, Plan::Merge { input: _, keys: _ }),
+        "a merge"
+    );
+    Ok(())
+}
+
+#[test]
 fn its_tasks(rt: HostRuntime) -> Result<(), Fail> {
-    let tasks = stages(rt.alloc(), &finished(rt.alloc())?)?;
-    let want = [0u32, 1, 1, 2, 2, 3];
-    assert_eq!(&rt; tasks.len(), want.len(), "one, two, two and one");
-    for (task, stage) in tasks.iter().zip(want.iter()) {
-        assert_eq!(&rt; task.stage, *stage);
-    }
+    let plan = finished(rt.alloc())?;
+    let tasks = stages(rt.alloc(), &plan)?;
+    assert_eq!(&rt; tasks.len(), 6, "one, two, two and one");
     Ok(())
 }
