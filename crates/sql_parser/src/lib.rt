@@ -17,5 +17,6 @@ mod select;
 mod sets;
 mod words;
 
+pub use copy::copy_expr;
 pub use refused::SyntaxRefused;
 pub use script::parse_script;
