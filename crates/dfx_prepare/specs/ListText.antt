@@ -1,4 +1,4 @@
--- Words: lists in a text.
+-- Meaning: lists in the text of a plan.
 use Rattle.std.specs.Prelude.{ℕ, List, [], ◌∷◌, ◌++◌, codes}
 
 -- texts in a row: what stands before the first is given, and before each further one a comma and a space

@@ -100,6 +100,8 @@ words_of names (Plan-F.Repartition input to) = codes "Repartition " ++ partition
 words_of names (Plan-F.UnionAll inputs) = codes "UnionAll"
 words_of names (Plan-F.Limit input skip fetch) = limit_text skip fetch
 
+-- ---- words
+
 -- the words of a plan's top node
 unfoldable pub top_words : List (List ℕ) → Plan → List ℕ
 top_words names plan = words_of names (out-Plan plan)

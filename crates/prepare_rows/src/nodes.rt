@@ -1,4 +1,4 @@
-use crate::shown::{int, is_node, is_text, scan, text};
+use crate::shown::{int, is_node, is_text, scan, scan_of, text};
 use dfx_value::{AggCall, JoinKind, SortKey};
 use physical_plan::Plan;
 use plan_props::Partitioning;
@@ -28,13 +28,18 @@ fn scans(rt: HostRuntime) -> Result<(), Fail> {
     Ok(())
 }
 
-/// A projection to the first columns, so many, and a text.
-fn project(alloc: Global, count: u32) -> Result<Plan, Fail> {
+/// The first columns, so many, and a text.
+fn items(alloc: Global, count: u32) -> Result<Items<Expr>, Fail> {
     let mut items = Items::new(alloc);
     for column in 0..count {
         items.push(Expr::Column(column))?;
     }
     items.push(text(alloc, "a, b")?)?;
+    Ok(items)
+}
+
+fn project(alloc: Global, count: u32) -> Result<Plan, Fail> {
+    let items = items(alloc, count)?;
     let input = scan(alloc)?;
     Ok(Plan::Project { input, items })
 }
@@ -52,6 +57,20 @@ fn projections(rt: HostRuntime) -> Result<(), Fail> {
     Ok(())
 }
 
+fn partial(alloc: Global, keys: &[u32], calls: &[AggCall]) -> Result<Plan, Fail> {
+    let input = scan(alloc)?;
+    let keys = Items::from_slice(alloc, keys)?;
+    let calls = Items::from_slice(alloc, calls)?;
+    Ok(Plan::PartialGroup { input, keys, calls })
+}
+
+fn finished(alloc: Global, keys: &[u32], calls: &[AggCall]) -> Result<Plan, Fail> {
+    let input = scan(alloc)?;
+    let keys = Items::from_slice(alloc, keys)?;
+    let calls = Items::from_slice(alloc, calls)?;
+    Ok(Plan::FinalGroup { input, keys, calls })
+}
+
 #[test]
 fn calls(rt: HostRuntime) -> Result<(), Fail> {
     for (call, want) in [
@@ -62,29 +81,19 @@ fn calls(rt: HostRuntime) -> Result<(), Fail> {
         (AggCall::Max(4), "PartialGroup keys=[] calls=[MAX(#4)]"),
         (AggCall::Avg(5), "PartialGroup keys=[] calls=[AVG(#5)]"),
     ] {
-        let input = scan(rt.alloc())?;
-        let keys = Items::new(rt.alloc());
-        let calls = Items::from_slice(rt.alloc(), &[call])?;
-        is_node(
-            &rt,
-            rt.alloc(),
-            Plan::PartialGroup { input, keys, calls },
-            want,
-        )?;
+        let plan = partial(rt.alloc(), &[], &[call])?;
+        is_node(&rt, rt.alloc(), plan, want)?;
     }
     Ok(())
 }
 
 #[test]
 fn groupings(rt: HostRuntime) -> Result<(), Fail> {
-    let alloc = rt.alloc();
-    let input = scan(alloc)?;
-    let keys = Items::from_slice(alloc, &[2, 0])?;
-    let calls = Items::from_slice(
-        alloc,
+    let plan = finished(
+        rt.alloc(),
+        &[2, 0],
         &[AggCall::CountAll, AggCall::Sum(3), AggCall::Avg(1)],
     )?;
-    let plan = Plan::FinalGroup { input, keys, calls };
     is_node(
         &rt,
         rt.alloc(),
@@ -95,27 +104,32 @@ fn groupings(rt: HostRuntime) -> Result<(), Fail> {
 
 #[test]
 fn groupings_without_calls(rt: HostRuntime) -> Result<(), Fail> {
-    let input = scan(rt.alloc())?;
-    let keys = Items::from_slice(rt.alloc(), &[1])?;
-    let calls = Items::new(rt.alloc());
-    let plan = Plan::PartialGroup { input, keys, calls };
+    let plan = partial(rt.alloc(), &[1], &[])?;
     is_node(&rt, rt.alloc(), plan, "PartialGroup keys=[#1] calls=[]")
 }
 
-/// A join of two scans, with so many pairs of keys: a column, and ten times its number and one.
-fn join(alloc: Global, kind: JoinKind, pairs: u32, rest: Option<Expr>) -> Result<Plan, Fail> {
-    let mut keys = Items::new(alloc);
-    for pair in 0..pairs {
-        keys.push((pair, pair.saturating_mul(10).saturating_add(1)))?;
+/// So many pairs: a column, and ten times its number and one.
+fn pairs(alloc: Global, count: u32) -> Result<Items<(u32, u32)>, Fail> {
+    let mut pairs = Items::new(alloc);
+    for column in 0..count {
+        pairs.push((column, column.saturating_mul(10).saturating_add(1)))?;
     }
+    Ok(pairs)
+}
+
+fn second_scan(alloc: Global) -> Result<Boxed<Plan>, Fail> {
+    Ok(Boxed::new(alloc, scan_of(alloc, 1, 4))?)
+}
+
+/// A join of two scans.
+fn join(
+    alloc: Global,
+    kind: JoinKind,
+    keys: Items<(u32, u32)>,
+    rest: Option<Expr>,
+) -> Result<Plan, Fail> {
     let left = scan(alloc)?;
-    let right = Plan::Scan {
-        table: 1,
-        kinds: Items::new(alloc),
-        files: 4,
-        partitions: 2,
-    };
-    let right = Boxed::new(alloc, right)?;
+    let right = second_scan(alloc)?;
     Ok(Plan::HashJoin {
         kind,
         left,
@@ -125,17 +139,30 @@ fn join(alloc: Global, kind: JoinKind, pairs: u32, rest: Option<Expr>) -> Result
     })
 }
 
+/// A join without a rest.
+fn plain_join(alloc: Global, kind: JoinKind, count: u32) -> Result<Plan, Fail> {
+    let keys = pairs(alloc, count)?;
+    join(alloc, kind, keys, None)
+}
+
+/// A join by one pair, with a rest.
+fn full_join(alloc: Global, kind: JoinKind) -> Result<Plan, Fail> {
+    let keys = pairs(alloc, 1)?;
+    let rest = text(alloc, "x'y")?;
+    join(alloc, kind, keys, Some(rest))
+}
+
 /// Checks the text of a join of those scans.
 fn is_join(rt: &impl Abort, alloc: Global, plan: Plan, words: &str) -> Result<(), Fail> {
     let want = format!(in alloc;
-        "{words}\n  Scan t partitions=1 files=1\n  Scan Orders 2 partitions=2 files=4\n"
+        "{words}\n  Scan t partitions=1 files=1\n  Scan Orders 2 partitions=4 files=4\n"
     )?;
     is_text(rt, alloc, plan, want.as_str())
 }
 
 #[test]
 fn joins(rt: HostRuntime) -> Result<(), Fail> {
-    for (kind, pairs, want) in [
+    for (kind, count, want) in [
         (JoinKind::Inner, 1, "HashJoin INNER keys=[#0=#1] rest=NONE"),
         (
             JoinKind::Left,
@@ -149,7 +176,7 @@ fn joins(rt: HostRuntime) -> Result<(), Fail> {
             "HashJoin FULL keys=[#0=#1, #1=#11, #2=#21] rest=NONE",
         ),
     ] {
-        let plan = join(rt.alloc(), kind, pairs, None)?;
+        let plan = plain_join(rt.alloc(), kind, count)?;
         is_join(&rt, rt.alloc(), plan, want)?;
     }
     Ok(())
@@ -163,11 +190,21 @@ fn joins_with_a_rest(rt: HostRuntime) -> Result<(), Fail> {
         (JoinKind::Right, "HashJoin RIGHT keys=[#0=#1] rest='x''y'"),
         (JoinKind::Full, "HashJoin FULL keys=[#0=#1] rest='x''y'"),
     ] {
-        let rest = text(rt.alloc(), "x'y")?;
-        let plan = join(rt.alloc(), kind, 1, Some(rest))?;
+        let plan = full_join(rt.alloc(), kind)?;
         is_join(&rt, rt.alloc(), plan, want)?;
     }
     Ok(())
+}
+
+fn sorted(alloc: Global, descending: bool, nulls_first: bool) -> Result<Plan, Fail> {
+    let key = SortKey {
+        column: 7,
+        descending,
+        nulls_first,
+    };
+    let input = scan(alloc)?;
+    let keys = Items::from_slice(alloc, &[key])?;
+    Ok(Plan::Sort { input, keys })
 }
 
 #[test]
@@ -178,14 +215,8 @@ fn sorts(rt: HostRuntime) -> Result<(), Fail> {
         (true, false, "Sort [#7 DESC NULLS LAST]"),
         (true, true, "Sort [#7 DESC NULLS FIRST]"),
     ] {
-        let key = SortKey {
-            column: 7,
-            descending,
-            nulls_first,
-        };
-        let input = scan(rt.alloc())?;
-        let keys = Items::from_slice(rt.alloc(), &[key])?;
-        is_node(&rt, rt.alloc(), Plan::Sort { input, keys }, want)?;
+        let plan = sorted(rt.alloc(), descending, nulls_first)?;
+        is_node(&rt, rt.alloc(), plan, want)?;
     }
     Ok(())
 }
@@ -214,44 +245,53 @@ fn merges(rt: HostRuntime) -> Result<(), Fail> {
     )
 }
 
+fn exchange(alloc: Global, to: Partitioning) -> Result<Plan, Fail> {
+    let input = scan(alloc)?;
+    Ok(Plan::Repartition { input, to })
+}
+
+fn hash_exchange(alloc: Global, columns: &[u32], count: u32) -> Result<Plan, Fail> {
+    let columns = Items::from_slice(alloc, columns)?;
+    exchange(alloc, Partitioning::Hash(columns, count))
+}
+
 #[test]
-fn exchanges(rt: HostRuntime) -> Result<(), Fail> {
-    for (to, want) in [
-        (Partitioning::RoundRobin(2), "Repartition RoundRobin(2)"),
-        (Partitioning::Single, "Repartition Single"),
-        (Partitioning::Unknown(3), "Repartition Unknown(3)"),
+fn exchanges_in_turn(rt: HostRuntime) -> Result<(), Fail> {
+    for (count, want) in [
+        (1, "Repartition RoundRobin(1)"),
+        (64, "Repartition RoundRobin(64)"),
     ] {
-        let input = scan(rt.alloc())?;
-        is_node(&rt, rt.alloc(), Plan::Repartition { input, to }, want)?;
+        let plan = exchange(rt.alloc(), Partitioning::RoundRobin(count))?;
+        is_node(&rt, rt.alloc(), plan, want)?;
     }
     Ok(())
 }
 
 #[test]
+fn exchanges_that_no_query_has(rt: HostRuntime) -> Result<(), Fail> {
+    let plan = exchange(rt.alloc(), Partitioning::Single)?;
+    is_node(&rt, rt.alloc(), plan, "Repartition Single")?;
+    let plan = exchange(rt.alloc(), Partitioning::Unknown(3))?;
+    is_node(&rt, rt.alloc(), plan, "Repartition Unknown(3)")
+}
+
+#[test]
 fn exchanges_by_hash(rt: HostRuntime) -> Result<(), Fail> {
-    let alloc = rt.alloc();
-    let input = scan(alloc)?;
-    let to = Partitioning::Hash(Items::from_slice(alloc, &[3, 1])?, 64);
-    is_node(
-        &rt,
-        rt.alloc(),
-        Plan::Repartition { input, to },
-        "Repartition Hash([#3, #1], 64)",
-    )?;
-    let input = scan(alloc)?;
-    let to = Partitioning::Hash(Items::new(alloc), 1);
-    is_node(
-        &rt,
-        rt.alloc(),
-        Plan::Repartition { input, to },
-        "Repartition Hash([], 1)",
-    )
+    let plan = hash_exchange(rt.alloc(), &[3, 1], 64)?;
+    is_node(&rt, rt.alloc(), plan, "Repartition Hash([#3, #1], 64)")?;
+    let plan = hash_exchange(rt.alloc(), &[], 1)?;
+    is_node(&rt, rt.alloc(), plan, "Repartition Hash([], 1)")
 }
 
 #[test]
 fn coalesces(rt: HostRuntime) -> Result<(), Fail> {
     let input = scan(rt.alloc())?;
     is_node(&rt, rt.alloc(), Plan::Coalesce { input }, "Coalesce")
+}
+
+fn limit(alloc: Global, skip: u64, fetch: Option<u64>) -> Result<Plan, Fail> {
+    let input = scan(alloc)?;
+    Ok(Plan::Limit { input, skip, fetch })
 }
 
 #[test]
@@ -266,39 +306,37 @@ fn limits(rt: HostRuntime) -> Result<(), Fail> {
             "Limit skip=18446744073709551615 fetch=18446744073709551615",
         ),
     ] {
-        let input = scan(rt.alloc())?;
-        is_node(&rt, rt.alloc(), Plan::Limit { input, skip, fetch }, want)?;
+        let plan = limit(rt.alloc(), skip, fetch)?;
+        is_node(&rt, rt.alloc(), plan, want)?;
     }
     Ok(())
 }
 
-/// The scan of a table of so many files, below a Coalesce where it is table 1.
-fn input_of_a_union(alloc: Global, table: u32, files: u32) -> Result<Plan, Fail> {
-    let plan = Plan::Scan {
-        table,
-        kinds: Items::new(alloc),
-        files,
-        partitions: 1,
-    };
-    if table == 1 {
-        let input = Boxed::new(alloc, plan)?;
-        return Ok(Plan::Coalesce { input });
-    }
-    Ok(plan)
+/// The scan of table 1 below a Coalesce.
+fn coalesced(alloc: Global) -> Result<Plan, Fail> {
+    let input = second_scan(alloc)?;
+    Ok(Plan::Coalesce { input })
+}
+
+fn union(alloc: Global) -> Result<Plan, Fail> {
+    let mut inputs = Items::new(alloc);
+    inputs.push(scan_of(alloc, 0, 1))?;
+    inputs.push(coalesced(alloc)?)?;
+    inputs.push(scan_of(alloc, 0, 3))?;
+    Ok(Plan::UnionAll { inputs })
 }
 
 #[test]
 fn a_union_of_three(rt: HostRuntime) -> Result<(), Fail> {
-    let mut inputs = Items::new(rt.alloc());
-    for (table, files) in [(0, 1), (1, 2), (0, 3)] {
-        inputs.push(input_of_a_union(rt.alloc(), table, files)?)?;
-    }
-    is_text(
-        &rt,
-        rt.alloc(),
-        Plan::UnionAll { inputs },
-        "UnionAll\n  Scan t partitions=1 files=1\n  Coalesce\n    Scan Orders 2 partitions=1 files=2\n  Scan t partitions=1 files=3\n",
-    )
+    let plan = union(rt.alloc())?;
+    let want = "\
+UnionAll
+  Scan t partitions=1 files=1
+  Coalesce
+    Scan Orders 2 partitions=4 files=4
+  Scan t partitions=3 files=3
+";
+    is_text(&rt, rt.alloc(), plan, want)
 }
 
 #[test]
@@ -307,30 +345,36 @@ fn a_union_of_none(rt: HostRuntime) -> Result<(), Fail> {
     is_text(&rt, rt.alloc(), Plan::UnionAll { inputs }, "UnionAll\n")
 }
 
-/// A filter over the node that is handed in.
-fn filtered(alloc: Global, input: Plan) -> Result<Plan, Fail> {
-    let input = Boxed::new(alloc, input)?;
+/// A filter over an INNER join.
+fn filtered_join(alloc: Global) -> Result<Boxed<Plan>, Fail> {
+    let input = Boxed::new(alloc, plain_join(alloc, JoinKind::Inner, 1)?)?;
     let test = int(1);
-    Ok(Plan::Filter { input, test })
+    Ok(Boxed::new(alloc, Plan::Filter { input, test })?)
 }
 
-#[test]
-fn inputs_of_a_join_stand_below_it(rt: HostRuntime) -> Result<(), Fail> {
-    let alloc = rt.alloc();
-    let below = join(alloc, JoinKind::Inner, 1, None)?;
-    let left = Boxed::new(alloc, filtered(alloc, below)?)?;
+/// A FULL join of that with a scan.
+fn join_of_joins(alloc: Global) -> Result<Plan, Fail> {
+    let left = filtered_join(alloc)?;
     let right = scan(alloc)?;
-    let plan = Plan::HashJoin {
+    Ok(Plan::HashJoin {
         kind: JoinKind::Full,
         left,
         right,
         keys: Items::new(alloc),
         rest: None,
-    };
-    is_text(
-        &rt,
-        rt.alloc(),
-        plan,
-        "HashJoin FULL keys=[] rest=NONE\n  Filter 1\n    HashJoin INNER keys=[#0=#1] rest=NONE\n      Scan t partitions=1 files=1\n      Scan Orders 2 partitions=2 files=4\n  Scan t partitions=1 files=1\n",
-    )
+    })
+}
+
+#[test]
+fn inputs_of_a_join_stand_below_it(rt: HostRuntime) -> Result<(), Fail> {
+    let plan = join_of_joins(rt.alloc())?;
+    let want = "\
+HashJoin FULL keys=[] rest=NONE
+  Filter 1
+    HashJoin INNER keys=[#0=#1] rest=NONE
+      Scan t partitions=1 files=1
+      Scan Orders 2 partitions=4 files=4
+  Scan t partitions=1 files=1
+";
+    is_text(&rt, rt.alloc(), plan, want)
 }
