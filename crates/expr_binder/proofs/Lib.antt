@@ -1,0 +1,5 @@
+pub mod SameLemmas
+pub mod MeaningSteps
+pub mod CallSteps
+pub mod Examples
+pub mod MeaningExamples
