@@ -1,0 +1,9 @@
+//! Tests of joins on a test: which parts are keys, what is left, and what is appended.
+#![tactic(auto)]
+
+#[cfg(test)]
+mod read;
+#[cfg(test)]
+mod shown;
+#[cfg(test)]
+mod tests;
