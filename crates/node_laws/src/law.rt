@@ -1,0 +1,38 @@
+ghost use Rattle.std.specs.Prelude.{ℕ, ◌≡◌, Option, List, [], ◌∷◌, map, length};
+ghost use Rattle.dfx_value.specs.declared.rows.SortKey.{SortKey as Key};
+ghost use Rattle.dfx_value.specs.declared.op.JoinKind.TheVariants.{Right as RightJoin, Full as FullJoin};
+ghost use Rattle.plan_props.specs.declared.properties.Partitioning.TheVariants.{RoundRobin as ByTurns};
+ghost use Rattle.plan_props.specs.Meets.{Row, Hashing, Meets, Delivers, AllInOrder, Gathers};
+ghost use Rattle.physical_plan.specs.declared.properties.Declared.{Declared as Said};
+ghost use Rattle.physical_plan.specs.Properties.{grouped, merged, repartitioned, hash_joined};
+ghost use Rattle.physical_plan.specs.Planned.{group_need};
+ghost use Rattle.physical_plan.specs.NodeRows.{Joined};
+ghost use Rattle.node_laws.specs.Weaves.{Interleaves, Merges};
+ghost use Rattle.node_laws.specs.Rows.{cut, Begun, Dealt, PartGroups, Groups, RightRow, FullRow, RightSides};
+
+/// What a node declares follows from what its inputs declare, for the rows that the node gives.
+///
+/// Where a node needs something of its input, that is a premise: the order of a Merge, the distribution of groups, the sides of a join.
+/// Limit declares what its input does, and so do the rows that any node gave so far.
+pub fn node_laws()
+    ensures limit { (h : Hashing) (skip : ℕ) (fetch : Option ℕ) (d : Said) (parts : List (List Row))
+        → Meets h d.props parts → Meets h d.props (map (cut skip fetch) parts) }
+    ensures begun { (h : Hashing) (d : Said) (whole outs : List (List Row))
+        → Begun whole outs → Meets h d.props whole → Meets h d.props outs }
+    ensures coalesce { (h : Hashing) (d : Said) (ins : List (List Row)) (out : List Row)
+        → Interleaves ins out → Meets h d.props ins → Meets h (merged [] d).props (out ∷ []) }
+    ensures merge { (h : Hashing) (keys : List Key) (d : Said) (ins : List (List Row)) (out : List Row)
+        → AllInOrder keys ins → Merges keys ins out → Meets h d.props ins → Meets h (merged keys d).props (out ∷ []) }
+    ensures deal { (h : Hashing) (n : ℕ) (d : Said) (ins outs : List (List Row))
+        → Dealt n ins outs → Meets h d.props ins → Meets h (repartitioned (ByTurns n) d).props outs }
+    ensures partial_group { (h : Hashing) (width : ℕ) (keys : List ℕ) (d : Said) (ins outs : List (List Row))
+        → PartGroups keys ins outs → Meets h d.props ins → Meets h (grouped width keys d).props outs }
+    ensures final_group { (h : Hashing) (width n : ℕ) (keys : List ℕ) (d : Said) (ins outs : List (List Row))
+        → Delivers h (group_need keys n) ins → Groups keys ins outs → Meets h d.props ins → Meets h (grouped width keys d).props outs }
+    ensures right { (h : Hashing) (keys : List (ℕ × ℕ)) (d e : Said) (lefts rights outs : List (List Row))
+        → RightSides h keys d lefts rights → Meets h d.props lefts → Meets h e.props rights
+        → Joined (RightRow keys d.width) lefts rights outs → Meets h (hash_joined RightJoin keys d e).props outs }
+    ensures full { (h : Hashing) (keys : List (ℕ × ℕ)) (d e : Said) (lefts rights outs : List (List Row))
+        → Meets h d.props lefts
+        → Joined (FullRow keys d.width e.width) lefts rights outs → Meets h (hash_joined FullJoin keys d e).props outs }
+{}
