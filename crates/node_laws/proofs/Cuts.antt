@@ -81,3 +81,6 @@ cut_meets h skip fetch p parts m =
 
 pub begun_meets : (h : Hashing) (p : Props) (whole outs : List (List Row)) → Begun whole outs → Meets h p whole → Meets h p outs
 begun_meets h p whole outs b m = fewer_meets h p whole outs b.count (λ j. keeps_front (part outs j) (part whole j) (b.rows j)) m
+
+pub cut_each : (P : Row → Type 0) (skip : ℕ) (fetch : Option ℕ) (parts : List (List Row)) (j : ℕ) → Each P (part parts j) → Each P (part (map (cut skip fetch) parts) j)
+cut_each P skip fetch parts j e = subst (Each P) (sym (part_map (cut skip fetch) (cut_none skip fetch) parts j)) ((keeps_cut skip fetch (part parts j)).each P e)

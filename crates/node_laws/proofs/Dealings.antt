@@ -49,7 +49,7 @@ alone xs (r ∷ rs) w = go (λ q. alone w.1 rs q) w.0 w.2 w.3
     go f (suc i) e more = cc
 
 module _ (h : Hashing) (n : ℕ) (d : Declared) (ins outs : List (List Row)) (a : Dealt n ins outs) (m : Meets h d.props ins) where
-  dealt_from : (j : ℕ) → Each (HoldsIn ins) (part outs j)
+  pub dealt_from : (j : ℕ) → Each (HoldsIn ins) (part outs j)
   dealt_from j =
       woven_each (HoldsIn ins) (to_target a.shares j) (part outs j) (a.given j)
       (λ i. subst (Each (HoldsIn ins)) (sym (share_at a.shares i j)) (each_woven (HoldsIn ins) (shares_of a.shares i) (part ins i) (a.split i) (rows_in ins i) j))

@@ -4,3 +4,6 @@ pub mod Dealings
 pub mod Moves
 pub mod Groupings
 pub mod Paddings
+pub mod Ranges
+pub mod Widths
+pub mod Wholes

@@ -2,12 +2,15 @@ ghost use Rattle.std.specs.Prelude.{ℕ, ◌≡◌, Option, List, [], ◌∷◌,
 ghost use Rattle.dfx_value.specs.declared.rows.SortKey.{SortKey as Key};
 ghost use Rattle.dfx_value.specs.declared.op.JoinKind.TheVariants.{Right as RightJoin, Full as FullJoin};
 ghost use Rattle.plan_props.specs.declared.properties.Partitioning.TheVariants.{RoundRobin as ByTurns};
-ghost use Rattle.plan_props.specs.Meets.{Row, Hashing, Meets, Delivers, AllInOrder, Gathers};
+ghost use Rattle.plan_props.specs.Meets.{Row, Hashing, Meets, Delivers, InOrder, AllInOrder};
+ghost use Rattle.physical_plan.specs.declared.plan.Plan.TheOpen.{Plan-F as Node};
+ghost use Rattle.physical_plan.specs.declared.plan.Plan.TheFolds.{map-Plan};
 ghost use Rattle.physical_plan.specs.declared.properties.Declared.{Declared as Said};
-ghost use Rattle.physical_plan.specs.Properties.{grouped, merged, repartitioned, hash_joined};
-ghost use Rattle.physical_plan.specs.Planned.{group_need};
+ghost use Rattle.physical_plan.specs.Properties.{grouped, merged, repartitioned, hash_joined, declared};
+ghost use Rattle.physical_plan.specs.Planned.{kids, group_need};
 ghost use Rattle.physical_plan.specs.NodeRows.{Joined};
 ghost use Rattle.node_laws.specs.Weaves.{Interleaves, Merges};
+ghost use Rattle.node_laws.specs.Nodes.{Stands, Input, AllStand, NodeNeeds, NodeGives};
 ghost use Rattle.node_laws.specs.Rows.{cut, Begun, Dealt, PartGroups, Groups, RightRow, FullRow, RightSides};
 
 /// What a node declares follows from what its inputs declare, for the rows that the node gives.
@@ -23,6 +26,8 @@ pub fn node_laws()
         → Interleaves ins out → Meets h d.props ins → Meets h (merged [] d).props (out ∷ []) }
     ensures merge { (h : Hashing) (keys : List Key) (d : Said) (ins : List (List Row)) (out : List Row)
         → AllInOrder keys ins → Merges keys ins out → Meets h d.props ins → Meets h (merged keys d).props (out ∷ []) }
+    ensures in_order { (h : Hashing) (keys : List Key) (d : Said) (ins : List (List Row)) (out : List Row)
+        → Interleaves ins out → InOrder keys out → Meets h d.props ins → Meets h (merged keys d).props (out ∷ []) }
     ensures deal { (h : Hashing) (n : ℕ) (d : Said) (ins outs : List (List Row))
         → Dealt n ins outs → Meets h d.props ins → Meets h (repartitioned (ByTurns n) d).props outs }
     ensures partial_group { (h : Hashing) (width : ℕ) (keys : List ℕ) (d : Said) (ins outs : List (List Row))
@@ -35,4 +40,13 @@ pub fn node_laws()
     ensures full { (h : Hashing) (keys : List (ℕ × ℕ)) (d e : Said) (lefts rights outs : List (List Row))
         → Meets h d.props lefts
         → Joined (FullRow keys d.width e.width) lefts rights outs → Meets h (hash_joined FullJoin keys d e).props outs }
+{}
+
+/// What every node of a plan declares, where it stands for its inputs and the node's needs are met, stands for the rows that it gives.
+///
+/// With a declaration stand the rows' width, and that its pairs and constants are columns of it; so the law goes from node to node.
+pub fn whole_law()
+    ensures { (h : Hashing) (n : ℕ) (node : Node Input) (outs : List (List Row))
+        → AllStand h (kids node) → NodeNeeds h n node → NodeGives h node outs
+        → Stands h (declared (map-Plan Input Said (λ i. i.0) node)) outs }
 {}

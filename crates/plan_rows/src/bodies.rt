@@ -203,7 +203,7 @@ fn group_body(alloc: Global, body: Body) -> Result<Logical, Fail> {
     }
 }
 
-pub fn body(alloc: Global, body: Body) -> Result<Logical, Fail> {
+pub fn body_of(alloc: Global, body: Body) -> Result<Logical, Fail> {
     match body {
         Body::Column(table) => column_of(alloc, table, 0),
         Body::Constant => project(alloc, ones(alloc, 0)?, &[0]),

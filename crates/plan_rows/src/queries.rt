@@ -1,5 +1,5 @@
 //! Queries whose plans are worked by hand: the plain plan and the finished one.
-use crate::bodies::{Body, body};
+use crate::bodies::{Body, body_of};
 use crate::shown::show_plan;
 use dfx_value::{JoinKind, Seq, SortKey, Text};
 use enforce_dist::enforce_distribution;
@@ -49,7 +49,7 @@ fn query(alloc: Global, asked: Asked) -> Result<Query, Fail> {
     let names: Vec<Text> = Vec::new(alloc);
     Ok(Query {
         names: Seq::from_vec(names),
-        body: body(alloc, asked.body)?,
+        body: body_of(alloc, asked.body)?,
         order: Seq::from_vec(order),
         offset: asked.offset,
         limit: asked.limit,

@@ -58,20 +58,22 @@ fn query(alloc: Global) -> Result<Query, Fail> {
     })
 }
 
-/// Its finished plan over one file, for two partitions.
+/// Its plain plan over one file, for two partitions.
+fn plain(alloc: Global) -> Result<Plan, Fail> {
+    let query = query(alloc)?;
+    Ok(build(alloc, &query, &[1], 2)?)
+}
+
+/// Its finished plan.
 fn finished(alloc: Global) -> Result<Plan, Fail> {
-    let plain = build(alloc, &query(alloc)?, &[1], 2)?;
-    let spread = enforce_distribution(alloc, plain, 2)?;
+    let spread = enforce_distribution(alloc, plain(alloc)?, 2)?;
     Ok(enforce_sorting(alloc, spread)?)
 }
 
-/// Its plain plan over one file, and the finished one, for two partitions.
+/// The plain plan, and the finished one, as lines.
 fn plans(rt: &HostRuntime) -> Result<String, Fail> {
     let mut shown = String::new(rt.alloc());
-    show_plan(
-        &mut shown,
-        &build(rt.alloc(), &query(rt.alloc())?, &[1], 2)?,
-    )?;
+    show_plan(&mut shown, &plain(rt.alloc())?)?;
     shown.push_str(" => ")?;
     show_plan(&mut shown, &finished(rt.alloc())?)?;
     Ok(shown)

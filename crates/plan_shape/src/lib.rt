@@ -4,8 +4,8 @@
 mod layout;
 mod numbers;
 mod parts;
-mod shape;
+mod shapes;
 mod tasks;
 
-pub use shape::{PlanShape, shape};
+pub use shapes::{PlanShape, shape};
 pub use tasks::TaskShape;

@@ -28,6 +28,7 @@ pub(crate) fn small(count: usize) -> Result<u32, NoMemory>
 }
 
 /// So many numbers from one on, ascending.
+#[tactic(auto, using(crate::proofs::Steps::numbers_step, crate::proofs::Steps::numbers_end))]
 pub(crate) fn numbers_from(alloc: Global, first: u32, count: u32) -> Result<Items<u32>, NoMemory>
     ensures { IfOk result (λ v. v ≡ spec.numbers_from first count) }
 {

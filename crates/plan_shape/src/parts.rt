@@ -49,6 +49,7 @@ fn bare(alloc: Global) -> Part
     }
 }
 
+#[tactic(auto, using(crate::proofs::Steps::bare_step, crate::proofs::Steps::bare_end))]
 pub(crate) fn bare_parts(alloc: Global, count: u32) -> Result<Items<Part>, NoMemory>
     ensures { IfOk result (λ ps. ps ≡ replicate count spec.bare) }
 {
@@ -177,6 +178,7 @@ fn append_from(
 }
 
 /// Partition by partition; what is left over stands alone.
+#[tactic(auto, using(crate::proofs::Steps::beside_end))]
 pub(crate) fn beside(alloc: Global, left: &[Part], right: &[Part]) -> Result<Items<Part>, NoMemory>
     ensures { IfOk result (λ ps. ps ≡ spec.beside left.now right.now) }
 {

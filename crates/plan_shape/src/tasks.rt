@@ -105,6 +105,7 @@ fn task_of(
 }
 
 /// Appends the tasks of a stage, whose first consumer has the number.
+#[tactic(auto, using(crate::proofs::Steps::tasks_step, crate::proofs::Steps::tasks_end))]
 pub(crate) fn push_tasks(
     alloc: Global,
     stage: u32,

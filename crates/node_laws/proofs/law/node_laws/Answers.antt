@@ -1,4 +1,4 @@
-use Rattle.node_laws.proofs.Weavings.{coalesce_meets, merge_meets}
+use Rattle.node_laws.proofs.Weavings.{coalesce_meets, gathered_meets, merge_meets}
 use Rattle.node_laws.proofs.Cuts.{cut_meets, begun_meets}
 use Rattle.node_laws.proofs.Dealings.{deal_meets}
 use Rattle.node_laws.proofs.Groupings.{partial_meets, final_meets}
@@ -11,6 +11,7 @@ returns c = record {
   begun = λ h d whole outs b m. begun_meets h d.props whole outs b m;
   coalesce = coalesce_meets;
   merge = merge_meets;
+  in_order = gathered_meets;
   deal = λ h n d ins outs a m. deal_meets h n d ins outs a m;
   partial_group = partial_meets;
   final_group = final_meets;

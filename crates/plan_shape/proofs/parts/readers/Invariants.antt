@@ -3,4 +3,4 @@ use Rattle.physical_plan.specs.Layout.{reader}
 use Rattle.plan_shape.proofs.parts.readers.Given as goal
 
 abbrev pub invariant-loop-channel : goal.invariant-loop-channel
-invariant-loop-channel l = l.all ++ map (reader l.group) (drop l.channel-index l.channels) ≡ map (reader l.group) l.channels
+invariant-loop-channel l = l.all ++ map (reader l.group) (drop l.channel-index l.channel-items) ≡ map (reader l.group) l.channel-items

@@ -1,6 +1,6 @@
 use Rattle.std.proofs.Common.{◌≡◌, ◌++◌, map, drop, length}
 use Rattle.physical_plan.specs.Layout.{tasks_from, spills_from, widths_of}
-use Rattle.plan_shape.proofs.shape.shape_from.Given as goal
+use Rattle.plan_shape.proofs.shapes.shape_from.Given as goal
 
 abbrev pub invariant-loop-at : goal.invariant-loop-at
 invariant-loop-at l = record {
