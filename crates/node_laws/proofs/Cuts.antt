@@ -84,3 +84,6 @@ begun_meets h p whole outs b m = fewer_meets h p whole outs b.count (λ j. keeps
 
 pub cut_each : (P : Row → Type 0) (skip : ℕ) (fetch : Option ℕ) (parts : List (List Row)) (j : ℕ) → Each P (part parts j) → Each P (part (map (cut skip fetch) parts) j)
 cut_each P skip fetch parts j e = subst (Each P) (sym (part_map (cut skip fetch) (cut_none skip fetch) parts j)) ((keeps_cut skip fetch (part parts j)).each P e)
+
+pub begun_each : (P : Row → Type 0) (whole outs : List (List Row)) → Begun whole outs → (j : ℕ) → Each P (part whole j) → Each P (part outs j)
+begun_each P whole outs b j e = (keeps_front (part outs j) (part whole j) (b.rows j)).each P e

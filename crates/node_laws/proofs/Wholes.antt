@@ -1,5 +1,5 @@
 -- What each node gives stands.
-use Rattle.std.proofs.Common.{ℕ, zero, suc, ◌≡◌, ◌+◌, ◌≤◌, refl, sym, ◌∙◌, subst, Some, List, [], ◌∷◌, map, length, sum, arith}
+use Rattle.std.proofs.Common.{ℕ, zero, suc, ◌≡◌, ◌+◌, ◌≤◌, refl, sym, ap, ◌∙◌, subst, Some, List, [], ◌∷◌, map, length, sum, arith}
 use Rattle.dfx_value.specs.declared.op.JoinKind.{JoinKind}
 use Rattle.dfx_value.specs.declared.op.JoinKind.TheVariants.{Inner, Left, Right, Full}
 use Rattle.scalar_exprs.specs.declared.expr.Expr.{Expr}
@@ -7,10 +7,12 @@ use Rattle.plan_props.specs.declared.properties.Partitioning.{Partitioning}
 use Rattle.plan_props.specs.declared.properties.Partitioning.TheVariants as parting
 use Rattle.plan_props.specs.Meets.{Row, Hashing, Each, part, Meets, Places}
 use Rattle.plan_props.proofs.Sound.{each_all, each_map}
+use Rattle.physical_plan.specs.declared.plan.Plan.{Plan}
 use Rattle.physical_plan.specs.declared.plan.Plan.TheOpen.{Plan-F}
-use Rattle.physical_plan.specs.declared.plan.Plan.TheFolds.{map-Plan}
+use Rattle.physical_plan.specs.declared.plan.Plan.TheViews.{roll-Plan}
+use Rattle.physical_plan.specs.declared.plan.Plan.TheFolds.{map-Plan, fold-roll-Plan}
 use Rattle.physical_plan.specs.declared.properties.Declared.{Declared}
-use Rattle.physical_plan.specs.Properties.{parts, scattered, filtered, projected, grouped, merged, repartitioned, hash_joined, united, first_width, place_in, kept_columns, item_columns, left_keys, right_keys, state_width, declared}
+use Rattle.physical_plan.specs.Properties.{parts, scattered, filtered, projected, grouped, merged, repartitioned, hash_joined, united, first_width, place_in, kept_columns, item_columns, left_keys, right_keys, state_width, declared, declared_of}
 use Rattle.physical_plan.specs.Facts.{fact_of}
 use Rattle.physical_plan.specs.Planned.{kids}
 use Rattle.physical_plan.specs.Joins.{AllMeet, Sides, Within, PairsWithin}
@@ -18,10 +20,10 @@ use Rattle.physical_plan.specs.NodeRows.{by_row, kept, values, Holds, HoldsIn, J
 use Rattle.physical_plan.proofs.Filters.{filter_meets, project_meets}
 use Rattle.physical_plan.proofs.Others.{sort_meets, repartition_meets, union_meets, left_join_meets, inner_join_meets}
 use Rattle.node_laws.specs.Weaves.{Interleaves}
-use Rattle.node_laws.specs.Rows.{RightSides}
-use Rattle.node_laws.specs.Nodes.{IsWide, AllWide, Stands, Input, AllStand, declared_inputs, rows_of, HaveWidth, JoinRow, Exchanges, NodeGives, NodeNeeds}
+use Rattle.node_laws.specs.Rows.{Begun, RightSides}
+use Rattle.node_laws.specs.Nodes.{IsWide, AllWide, Stands, Input, PlanInput, plans_of, inputs_of, AllStand, declared_inputs, rows_of, HaveWidth, JoinRow, Exchanges, NodeGives, NodeNeeds}
 use Rattle.node_laws.proofs.Weavings.{woven_each, merges_interleave, coalesce_meets, merge_meets}
-use Rattle.node_laws.proofs.Cuts.{cut_meets, cut_each}
+use Rattle.node_laws.proofs.Cuts.{cut_meets, cut_each, begun_meets, begun_each}
 use Rattle.node_laws.proofs.Dealings.{single_parts, single_hashed, unordered, dealt_from, deal_meets}
 use Rattle.node_laws.proofs.Groupings.{partial_meets, final_meets}
 use Rattle.node_laws.proofs.Paddings.{right_meets, full_meets}
@@ -170,3 +172,33 @@ node_stands h n (Plan-F.UnionAll is) outs s need g =
 node_stands h n (Plan-F.Limit i skip fetch) outs s need g =
     subst (Stands h i.0) (sym g)
     (record { meets = cut_meets h skip fetch i.0.props i.1 s.0.meets; wide = λ j. cut_each (IsWide i.0.width) skip fetch i.1 j (s.0.wide j); pairs = s.0.pairs; constants = s.0.constants })
+
+-- ---- nodes of plans, and rows so far
+
+all_declared : (is : List PlanInput) → map declared_of (map (λ (i : PlanInput). i.0) is) ≡ map (λ (i : Input). i.0) (map (λ (i : PlanInput). (declared_of i.0, i.1)) is)
+all_declared [] = refl
+all_declared (i ∷ is) = ap (λ (ds : List Declared). declared_of i.0 ∷ ds) (all_declared is)
+
+declared_inside : (z : Plan-F PlanInput) → map-Plan Plan Declared declared_of (plans_of z) ≡ map-Plan Input Declared (λ i. i.0) (inputs_of z)
+declared_inside (Plan-F.Scan table kinds files partitions) = refl
+declared_inside (Plan-F.Filter i test) = refl
+declared_inside (Plan-F.Project i es) = refl
+declared_inside (Plan-F.PartialGroup i keys calls) = refl
+declared_inside (Plan-F.FinalGroup i keys calls) = refl
+declared_inside (Plan-F.HashJoin kind l r keys rest) = refl
+declared_inside (Plan-F.Sort i keys) = refl
+declared_inside (Plan-F.Merge i keys) = refl
+declared_inside (Plan-F.Coalesce i) = refl
+declared_inside (Plan-F.Repartition i to) = refl
+declared_inside (Plan-F.UnionAll is) = ap (λ (ds : List Declared). Plan-F.UnionAll ds) (all_declared is)
+declared_inside (Plan-F.Limit i skip fetch) = refl
+
+declared_rolled : (z : Plan-F PlanInput) → declared_of (roll-Plan (plans_of z)) ≡ declared (map-Plan Input Declared (λ i. i.0) (inputs_of z))
+unfolding declared_of
+declared_rolled z = fold-roll-Plan Declared declared (plans_of z) ∙ ap declared (declared_inside z)
+
+pub plan_stands : (h : Hashing) (n : ℕ) (z : Plan-F PlanInput) (outs : List (List Row)) → AllStand h (kids (inputs_of z)) → NodeNeeds h n (inputs_of z) → NodeGives h (inputs_of z) outs → Stands h (declared_of (roll-Plan (plans_of z))) outs
+plan_stands h n z outs s need g = subst (λ (d : Declared). Stands h d outs) (sym (declared_rolled z)) (node_stands h n (inputs_of z) outs s need g)
+
+pub begun_stands : (h : Hashing) (d : Declared) (whole outs : List (List Row)) → Begun whole outs → Stands h d whole → Stands h d outs
+begun_stands h d whole outs b s = record { meets = begun_meets h d.props whole outs b s.meets; wide = λ j. begun_each (IsWide d.width) whole outs b j (s.wide j); pairs = s.pairs; constants = s.constants }

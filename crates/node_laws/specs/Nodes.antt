@@ -6,9 +6,11 @@ use Rattle.plan_props.specs.declared.properties.Partitioning.{Partitioning}
 use Rattle.plan_props.specs.declared.properties.Partitioning.TheVariants as parting
 use Rattle.plan_props.specs.declared.properties.Distribution.TheVariants as need
 use Rattle.plan_props.specs.Meets.{Row, Hashing, Each, part, Meets, Delivers, AllInOrder}
+use Rattle.physical_plan.specs.declared.plan.Plan.{Plan}
 use Rattle.physical_plan.specs.declared.plan.Plan.TheOpen.{Plan-F}
+use Rattle.physical_plan.specs.declared.plan.Plan.TheFolds.{map-Plan}
 use Rattle.physical_plan.specs.declared.properties.Declared.{Declared}
-use Rattle.physical_plan.specs.Properties.{first_width, state_width, left_keys, right_keys}
+use Rattle.physical_plan.specs.Properties.{first_width, state_width, left_keys, right_keys, declared_of}
 use Rattle.physical_plan.specs.Facts.{fact_of}
 use Rattle.physical_plan.specs.Planned.{group_need}
 use Rattle.physical_plan.specs.Joins.{Within, PairsWithin}
@@ -84,3 +86,15 @@ NodeNeeds h n (Plan-F.HashJoin kind left right keys rest) =
 NodeNeeds h n (Plan-F.Merge input keys) = AllInOrder keys input.1
 NodeNeeds h n (Plan-F.UnionAll inputs) = HaveWidth (first_width (declared_inputs inputs)) inputs
 NodeNeeds h n _ = Unit {0}
+
+-- ---- nodes of plans
+
+-- an input's plan, and the rows of its partitions
+abbrev pub PlanInput : Type 0
+PlanInput = Plan × List (List Row)
+
+abbrev pub plans_of : Plan-F PlanInput → Plan-F Plan
+plans_of z = map-Plan PlanInput Plan (λ i. i.0) z
+
+abbrev pub inputs_of : Plan-F PlanInput → Plan-F Input
+inputs_of z = map-Plan PlanInput Input (λ i. (declared_of i.0, i.1)) z

@@ -4,13 +4,14 @@ ghost use Rattle.dfx_value.specs.declared.op.JoinKind.TheVariants.{Right as Righ
 ghost use Rattle.plan_props.specs.declared.properties.Partitioning.TheVariants.{RoundRobin as ByTurns};
 ghost use Rattle.plan_props.specs.Meets.{Row, Hashing, Meets, Delivers, InOrder, AllInOrder};
 ghost use Rattle.physical_plan.specs.declared.plan.Plan.TheOpen.{Plan-F as Node};
+ghost use Rattle.physical_plan.specs.declared.plan.Plan.TheViews.{roll-Plan};
 ghost use Rattle.physical_plan.specs.declared.plan.Plan.TheFolds.{map-Plan};
 ghost use Rattle.physical_plan.specs.declared.properties.Declared.{Declared as Said};
-ghost use Rattle.physical_plan.specs.Properties.{grouped, merged, repartitioned, hash_joined, declared};
+ghost use Rattle.physical_plan.specs.Properties.{grouped, merged, repartitioned, hash_joined, declared, declared_of};
 ghost use Rattle.physical_plan.specs.Planned.{kids, group_need};
 ghost use Rattle.physical_plan.specs.NodeRows.{Joined};
 ghost use Rattle.node_laws.specs.Weaves.{Interleaves, Merges};
-ghost use Rattle.node_laws.specs.Nodes.{Stands, Input, AllStand, NodeNeeds, NodeGives};
+ghost use Rattle.node_laws.specs.Nodes.{Stands, Input, PlanInput, AllStand, NodeNeeds, NodeGives, plans_of, inputs_of};
 ghost use Rattle.node_laws.specs.Rows.{cut, Begun, Dealt, PartGroups, Groups, RightRow, FullRow, RightSides};
 
 /// What a node declares follows from what its inputs declare, for the rows that the node gives.
@@ -42,11 +43,17 @@ pub fn node_laws()
         → Joined (FullRow keys d.width e.width) lefts rights outs → Meets h (hash_joined FullJoin keys d e).props outs }
 {}
 
-/// What every node of a plan declares, where it stands for its inputs and the node's needs are met, stands for the rows that it gives.
+/// What every node of a plan declares stands of the rows that it gives, where it stands of its inputs and the node's needs are met.
 ///
-/// With a declaration stand the rows' width, and that its pairs and constants are columns of it; so the law goes from node to node.
+/// To stand means that the declaration is met, that rows have its width, and that its pairs and constants are columns of it. So the law
+/// goes on from node to node, and it holds of what was given so far as well.
 pub fn whole_law()
-    ensures { (h : Hashing) (n : ℕ) (node : Node Input) (outs : List (List Row))
+    ensures node { (h : Hashing) (n : ℕ) (node : Node Input) (outs : List (List Row))
         → AllStand h (kids node) → NodeNeeds h n node → NodeGives h node outs
         → Stands h (declared (map-Plan Input Said (λ i. i.0) node)) outs }
+    ensures plan { (h : Hashing) (n : ℕ) (node : Node PlanInput) (outs : List (List Row))
+        → AllStand h (kids (inputs_of node)) → NodeNeeds h n (inputs_of node) → NodeGives h (inputs_of node) outs
+        → Stands h (declared_of (roll-Plan (plans_of node))) outs }
+    ensures begun { (h : Hashing) (d : Said) (whole outs : List (List Row))
+        → Begun whole outs → Stands h d whole → Stands h d outs }
 {}

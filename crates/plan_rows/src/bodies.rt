@@ -7,7 +7,7 @@ use std::alloc::Global;
 use std::test::Fail;
 
 /// What a query selects from.
-#[derive(Clone, Copy, Debug)]
+#[derive(Clone, Copy)]
 pub enum Body {
     /// SELECT a FROM t
     Column(u32),

@@ -60,7 +60,7 @@ fn show_props(out: &mut String, declared: &Props) -> Result<(), Fail> {
     show_columns(out, declared.constants.as_slice())
 }
 
-#[derive(Clone, Copy, Debug)]
+#[derive(Clone, Copy)]
 enum Case {
     /// WHERE a = b, over rows in the order of a and b
     Equal,
@@ -149,56 +149,60 @@ fn declared(rt: &HostRuntime, case: Case) -> Result<String, Fail> {
     Ok(shown)
 }
 
+const NODES: [(Case, &str); 11] = [
+    (Case::Equal, "single; order 0 1; same 0=1; constant"),
+    // Columns get the places of the first items that they are; an order is kept as far as its columns are.
+    (Case::Turned, "single; order 1 0; same 1=0; constant"),
+    (Case::Less, "single; order 0; same; constant"),
+    // A hash column that is lost leaves partitions of which nothing is known.
+    (Case::KeptHash, "hash 0 of 3; order; same; constant"),
+    (Case::LostHash, "any of 3; order; same; constant"),
+    // An exchange keeps the order of one partition, and one to one partition is Single.
+    (
+        Case::OrderedExchange,
+        "hash 0 of 2; order 0 1; same; constant",
+    ),
+    (Case::ToOne, "single; order; same; constant"),
+    (Case::Dealt, "dealt to 3; order 0 1; same; constant"),
+    (Case::Merged, "single; order 0; same; constant"),
+    (Case::Gathered, "single; order; same; constant"),
+    (Case::Groups, "hash 0 of 4; order; same; constant"),
+];
+
 #[test]
 fn nodes_declare(rt: HostRuntime) -> Result<(), Fail> {
-    for (case, wanted) in [
-        (Case::Equal, "single; order 0 1; same 0=1; constant"),
-        // Columns get the places of the first items that they are; an order is kept as far as its columns are.
-        (Case::Turned, "single; order 1 0; same 1=0; constant"),
-        (Case::Less, "single; order 0; same; constant"),
-        // A hash column that is lost leaves partitions of which nothing is known.
-        (Case::KeptHash, "hash 0 of 3; order; same; constant"),
-        (Case::LostHash, "any of 3; order; same; constant"),
-        // An exchange keeps the order of one partition, and one to one partition is Single.
-        (
-            Case::OrderedExchange,
-            "hash 0 of 2; order 0 1; same; constant",
-        ),
-        (Case::ToOne, "single; order; same; constant"),
-        (Case::Dealt, "dealt to 3; order 0 1; same; constant"),
-        (Case::Merged, "single; order 0; same; constant"),
-        (Case::Gathered, "single; order; same; constant"),
-        (Case::Groups, "hash 0 of 4; order; same; constant"),
-    ] {
+    for (case, wanted) in NODES {
         let found = declared(&rt, case)?;
-        assert!(rt; found.as_str() == wanted, "{case:?}: {found}");
+        assert!(rt; found.as_str() == wanted, "wanted {wanted}: {found}");
     }
     Ok(())
 }
 
+const JOINS_AND_UNIONS: [(Case, &str); 5] = [
+    (
+        Case::Join(JoinKind::Inner),
+        "hash 0 of 4; order; same 0=3; constant 1 2",
+    ),
+    (
+        Case::Join(JoinKind::Left),
+        "hash 0 of 4; order; same; constant 1",
+    ),
+    (
+        Case::Join(JoinKind::Right),
+        "hash 3 of 4; order; same; constant 2",
+    ),
+    (
+        Case::Join(JoinKind::Full),
+        "any of 4; order; same; constant",
+    ),
+    (Case::Union, "any of 5; order; same; constant"),
+];
+
 #[test]
 fn joins_and_unions_declare(rt: HostRuntime) -> Result<(), Fail> {
-    for (case, wanted) in [
-        (
-            Case::Join(JoinKind::Inner),
-            "hash 0 of 4; order; same 0=3; constant 1 2",
-        ),
-        (
-            Case::Join(JoinKind::Left),
-            "hash 0 of 4; order; same; constant 1",
-        ),
-        (
-            Case::Join(JoinKind::Right),
-            "hash 3 of 4; order; same; constant 2",
-        ),
-        (
-            Case::Join(JoinKind::Full),
-            "any of 4; order; same; constant",
-        ),
-        (Case::Union, "any of 5; order; same; constant"),
-    ] {
+    for (case, wanted) in JOINS_AND_UNIONS {
         let found = declared(&rt, case)?;
-        assert!(rt; found.as_str() == wanted, "{case:?}: {found}");
+        assert!(rt; found.as_str() == wanted, "wanted {wanted}: {found}");
     }
     Ok(())
 }

@@ -10,7 +10,7 @@ use std::alloc::Global;
 use std::rt::HostRuntime;
 use std::test::Fail;
 
-#[derive(Clone, Copy, Debug)]
+#[derive(Clone, Copy)]
 enum Case {
     /// SELECT b, COUNT(*) FROM t GROUP BY b ORDER BY b
     GroupsInOrder,
@@ -80,33 +80,35 @@ fn plans(rt: &HostRuntime, case: Case) -> Result<String, Fail> {
     Ok(shown)
 }
 
+const CASES: [(Case, &str); 9] = [
+    (
+        Case::GroupsInOrder,
+        "S0(P(G(g(P(t0/1))))) => M0(S0(P(G(H0/4(g(P(R4(t0/1))))))))",
+    ),
+    (
+        Case::LeftJoin,
+        "J(t0/2)(t1/2) => C(J(H0/4(R4(t0/2)))(H0/4(R4(t1/2))))",
+    ),
+    (
+        Case::TwoJoins,
+        "J(J(t0/4)(t1/4))(t2/4) => C(J(J(H0/4(t0/4))(H0/4(t1/4)))(H0/4(t2/4)))",
+    ),
+    (Case::Count, "G(g(t0/2)) => G(C(g(R4(t0/2))))"),
+    (Case::Limit, "L(P(t0/2)) => L(C(P(t0/2)))"),
+    (Case::Scan, "t0/1 => t0/1"),
+    (Case::Union, "U(t0/1 t1/2) => C(U(t0/1 t1/2))"),
+    (Case::SortedLimit, "L(S0(t0/1)) => L(M0(S0(R4(t0/1))))"),
+    (
+        Case::SortedUnion,
+        "S1(U(t0/1 t1/4)) => M1(S1(U(R4(t0/1) t1/4)))",
+    ),
+];
+
 #[test]
 fn exchanges(rt: HostRuntime) -> Result<(), Fail> {
-    for (case, wanted) in [
-        (
-            Case::GroupsInOrder,
-            "S0(P(G(g(P(t0/1))))) => M0(S0(P(G(H0/4(g(P(R4(t0/1))))))))",
-        ),
-        (
-            Case::LeftJoin,
-            "J(t0/2)(t1/2) => C(J(H0/4(R4(t0/2)))(H0/4(R4(t1/2))))",
-        ),
-        (
-            Case::TwoJoins,
-            "J(J(t0/4)(t1/4))(t2/4) => C(J(J(H0/4(t0/4))(H0/4(t1/4)))(H0/4(t2/4)))",
-        ),
-        (Case::Count, "G(g(t0/2)) => G(C(g(R4(t0/2))))"),
-        (Case::Limit, "L(P(t0/2)) => L(C(P(t0/2)))"),
-        (Case::Scan, "t0/1 => t0/1"),
-        (Case::Union, "U(t0/1 t1/2) => C(U(t0/1 t1/2))"),
-        (Case::SortedLimit, "L(S0(t0/1)) => L(M0(S0(R4(t0/1))))"),
-        (
-            Case::SortedUnion,
-            "S1(U(t0/1 t1/4)) => M1(S1(U(R4(t0/1) t1/4)))",
-        ),
-    ] {
+    for (case, wanted) in CASES {
         let found = plans(&rt, case)?;
-        assert!(rt; found.as_str() == wanted, "{case:?}: {found}");
+        assert!(rt; found.as_str() == wanted, "wanted {wanted}: {found}");
     }
     Ok(())
 }

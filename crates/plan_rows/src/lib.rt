@@ -14,6 +14,8 @@ mod nodes;
 #[cfg(test)]
 mod queries;
 #[cfg(test)]
+mod shapes;
+#[cfg(test)]
 mod shown;
 #[cfg(test)]
 mod tests;

@@ -12,7 +12,7 @@ use std::rt::HostRuntime;
 use std::test::Fail;
 
 /// A query over a body: its order, ascending with NULLs last, and its limit; and for how many partitions it is planned.
-#[derive(Clone, Copy, Debug)]
+#[derive(Clone, Copy)]
 struct Asked {
     body: Body,
     order: &'static [u32],
@@ -75,171 +75,211 @@ fn plans(rt: &HostRuntime, asked: Asked) -> Result<String, Fail> {
     Ok(shown)
 }
 
+const ONE_TABLE: [(Body, &[u32], &str); 10] = [
+    (Body::Column(0), &[], "P(t0/1) => P(t0/1)"),
+    (Body::Column(1), &[], "P(t1/2) => C(P(t1/2))"),
+    (Body::Column(3), &[], "P(t3/1) => P(t3/1)"),
+    (Body::Column(0), &[0], "S0(P(t0/1)) => M0(S0(P(R4(t0/1))))"),
+    (
+        Body::Column(2),
+        &[0, 0],
+        "S0,0(P(t2/4)) => M0,0(S0,0(P(t2/4)))",
+    ),
+    // What is constant needs no sort, and a merge of it neither.
+    (Body::Constant, &[0], "S0(P(F(t0/1))) => M0(P(F(R4(t0/1))))"),
+    (Body::Null, &[0], "S0(P(F(t0/1))) => M0(P(F(R4(t0/1))))"),
+    (Body::Literal, &[1], "S1(P(t0/1)) => M1(P(R4(t0/1)))"),
+    (
+        Body::Literal,
+        &[1, 0],
+        "S1,0(P(t0/1)) => M1,0(S1,0(P(R4(t0/1))))",
+    ),
+    (
+        Body::Same,
+        &[0, 2],
+        "S0,2(F(t0/1)) => M0,2(S0,2(F(R4(t0/1))))",
+    ),
+];
+
 #[test]
 fn queries_of_one_table(rt: HostRuntime) -> Result<(), Fail> {
-    for (asked, wanted) in [
-        (by(Body::Column(0), &[]), "P(t0/1) => P(t0/1)"),
-        (by(Body::Column(1), &[]), "P(t1/2) => C(P(t1/2))"),
-        (by(Body::Column(3), &[]), "P(t3/1) => P(t3/1)"),
-        (
-            by(Body::Column(0), &[0]),
-            "S0(P(t0/1)) => M0(S0(P(R4(t0/1))))",
-        ),
-        (
-            by(Body::Column(2), &[0, 0]),
-            "S0,0(P(t2/4)) => M0,0(S0,0(P(t2/4)))",
-        ),
-        // What is constant needs no sort, and a merge of it neither.
-        (
-            by(Body::Constant, &[0]),
-            "S0(P(F(t0/1))) => M0(P(F(R4(t0/1))))",
-        ),
-        (by(Body::Null, &[0]), "S0(P(F(t0/1))) => M0(P(F(R4(t0/1))))"),
-        (by(Body::Literal, &[1]), "S1(P(t0/1)) => M1(P(R4(t0/1)))"),
-        (
-            by(Body::Literal, &[1, 0]),
-            "S1,0(P(t0/1)) => M1,0(S1,0(P(R4(t0/1))))",
-        ),
-        (
-            by(Body::Same, &[0, 2]),
-            "S0,2(F(t0/1)) => M0,2(S0,2(F(R4(t0/1))))",
-        ),
-    ] {
-        let found = plans(&rt, asked)?;
-        assert!(rt; found.as_str() == wanted, "{asked:?}: {found}");
+    for (body, order, wanted) in ONE_TABLE {
+        let found = plans(&rt, by(body, order))?;
+        assert!(rt; found.as_str() == wanted, "wanted {wanted}: {found}");
     }
     Ok(())
 }
+
+const GROUPS: [(Body, &[u32], &str); 8] = [
+    (
+        Body::Groups(0),
+        &[],
+        "P(G(g(P(t0/1)))) => C(P(G(H0/4(g(P(R4(t0/1)))))))",
+    ),
+    (
+        Body::Groups(0),
+        &[0],
+        "S0(P(G(g(P(t0/1))))) => M0(S0(P(G(H0/4(g(P(R4(t0/1))))))))",
+    ),
+    (Body::Count, &[], "P(G(g(t2/4))) => P(G(C(g(t2/4))))"),
+    (
+        Body::Distinct,
+        &[],
+        "G(g(P(t1/2))) => C(G(H0/4(g(P(R4(t1/2))))))",
+    ),
+    (
+        Body::Union,
+        &[],
+        "U(P(t0/1) P(t1/2)) => C(U(P(t0/1) P(t1/2)))",
+    ),
+    (
+        Body::Union,
+        &[0],
+        "S0(U(P(t0/1) P(t1/2))) => M0(S0(U(P(R4(t0/1)) P(R4(t1/2)))))",
+    ),
+    (
+        Body::UnionDistinct,
+        &[],
+        "G(g(U(P(t0/1) P(t1/2)))) => C(G(H0/4(g(U(P(R4(t0/1)) P(R4(t1/2)))))))",
+    ),
+    // A second grouping by the same column finds its rows hashed.
+    (
+        Body::GroupsOfGroups,
+        &[],
+        "G(g(P(G(g(P(t2/4)))))) => C(G(g(P(G(H0/4(g(P(t2/4))))))))",
+    ),
+];
 
 #[test]
 fn queries_with_groups_and_unions(rt: HostRuntime) -> Result<(), Fail> {
-    for (asked, wanted) in [
-        (
-            by(Body::Groups(0), &[]),
-            "P(G(g(P(t0/1)))) => C(P(G(H0/4(g(P(R4(t0/1)))))))",
-        ),
-        (
-            by(Body::Groups(0), &[0]),
-            "S0(P(G(g(P(t0/1))))) => M0(S0(P(G(H0/4(g(P(R4(t0/1))))))))",
-        ),
-        (by(Body::Count, &[]), "P(G(g(t2/4))) => P(G(C(g(t2/4))))"),
-        (
-            by(Body::Distinct, &[]),
-            "G(g(P(t1/2))) => C(G(H0/4(g(P(R4(t1/2))))))",
-        ),
-        (
-            by(Body::Union, &[]),
-            "U(P(t0/1) P(t1/2)) => C(U(P(t0/1) P(t1/2)))",
-        ),
-        (
-            by(Body::Union, &[0]),
-            "S0(U(P(t0/1) P(t1/2))) => M0(S0(U(P(R4(t0/1)) P(R4(t1/2)))))",
-        ),
-        (
-            by(Body::UnionDistinct, &[]),
-            "G(g(U(P(t0/1) P(t1/2)))) => C(G(H0/4(g(U(P(R4(t0/1)) P(R4(t1/2)))))))",
-        ),
-        // A second grouping by the same column finds its rows hashed.
-        (
-            by(Body::GroupsOfGroups, &[]),
-            "G(g(P(G(g(P(t2/4)))))) => C(G(g(P(G(H0/4(g(P(t2/4))))))))",
-        ),
-    ] {
-        let found = plans(&rt, asked)?;
-        assert!(rt; found.as_str() == wanted, "{asked:?}: {found}");
+    for (body, order, wanted) in GROUPS {
+        let found = plans(&rt, by(body, order))?;
+        assert!(rt; found.as_str() == wanted, "wanted {wanted}: {found}");
     }
     Ok(())
 }
+
+const JOINS: [(Body, &[u32], &str); 6] = [
+    (
+        Body::Join(JoinKind::Inner),
+        &[],
+        "J(t0/1)(t1/2) => C(J(H0/4(R4(t0/1)))(H0/4(R4(t1/2))))",
+    ),
+    (
+        Body::GroupOfJoin(0),
+        &[],
+        "G(g(P(J(t0/1)(t1/2)))) => C(G(g(P(J(H0/4(R4(t0/1)))(H0/4(R4(t1/2)))))))",
+    ),
+    // The right key alone: the column by which rows are hashed is lost.
+    (
+        Body::GroupOfJoin(3),
+        &[],
+        "G(g(P(J(t0/1)(t1/2)))) => C(G(H0/4(g(P(J(H0/4(R4(t0/1)))(H0/4(R4(t1/2))))))))",
+    ),
+    // A join finds its left side hashed by an INNER or a LEFT join below, and not by a FULL one.
+    (
+        Body::Joins(JoinKind::Left),
+        &[],
+        "J(J(t0/1)(t1/2))(t2/4) => C(J(J(H0/4(R4(t0/1)))(H0/4(R4(t1/2))))(H0/4(t2/4)))",
+    ),
+    (
+        Body::Joins(JoinKind::Full),
+        &[],
+        "J(J(t0/1)(t1/2))(t2/4) => C(J(H0/4(J(H0/4(R4(t0/1)))(H0/4(R4(t1/2)))))(H0/4(t2/4)))",
+    ),
+    (
+        Body::JoinOfGroups,
+        &[],
+        "J(G(g(P(t2/4))))(t1/2) => C(J(G(H0/4(g(P(t2/4)))))(H0/4(R4(t1/2))))",
+    ),
+];
 
 #[test]
 fn queries_with_joins(rt: HostRuntime) -> Result<(), Fail> {
-    for (asked, wanted) in [
-        (
-            by(Body::Join(JoinKind::Inner), &[]),
-            "J(t0/1)(t1/2) => C(J(H0/4(R4(t0/1)))(H0/4(R4(t1/2))))",
-        ),
-        (
-            by(Body::GroupOfJoin(0), &[]),
-            "G(g(P(J(t0/1)(t1/2)))) => C(G(g(P(J(H0/4(R4(t0/1)))(H0/4(R4(t1/2)))))))",
-        ),
-        // The right key alone: the column by which rows are hashed is lost.
-        (
-            by(Body::GroupOfJoin(3), &[]),
-            "G(g(P(J(t0/1)(t1/2)))) => C(G(H0/4(g(P(J(H0/4(R4(t0/1)))(H0/4(R4(t1/2))))))))",
-        ),
-        // A join finds its left side hashed by an INNER or a LEFT join below, and not by a FULL one.
-        (
-            by(Body::Joins(JoinKind::Left), &[]),
-            "J(J(t0/1)(t1/2))(t2/4) => C(J(J(H0/4(R4(t0/1)))(H0/4(R4(t1/2))))(H0/4(t2/4)))",
-        ),
-        (
-            by(Body::Joins(JoinKind::Full), &[]),
-            "J(J(t0/1)(t1/2))(t2/4) => C(J(H0/4(J(H0/4(R4(t0/1)))(H0/4(R4(t1/2)))))(H0/4(t2/4)))",
-        ),
-        (
-            by(Body::JoinOfGroups, &[]),
-            "J(G(g(P(t2/4))))(t1/2) => C(J(G(H0/4(g(P(t2/4)))))(H0/4(R4(t1/2))))",
-        ),
-    ] {
-        let found = plans(&rt, asked)?;
-        assert!(rt; found.as_str() == wanted, "{asked:?}: {found}");
+    for (body, order, wanted) in JOINS {
+        let found = plans(&rt, by(body, order))?;
+        assert!(rt; found.as_str() == wanted, "wanted {wanted}: {found}");
     }
     Ok(())
 }
+
+const PADDED: [(JoinKind, &str); 4] = [
+    (
+        JoinKind::Inner,
+        "S3(J(t0/1)(F(t1/2))) => M3(J(H0/4(R4(t0/1)))(H0/4(F(R4(t1/2)))))",
+    ),
+    (
+        JoinKind::Left,
+        "S3(J(t0/1)(F(t1/2))) => M3(S3(J(H0/4(R4(t0/1)))(H0/4(F(R4(t1/2))))))",
+    ),
+    (
+        JoinKind::Right,
+        "S3(J(t0/1)(F(t1/2))) => M3(J(H0/4(R4(t0/1)))(H0/4(F(R4(t1/2)))))",
+    ),
+    (
+        JoinKind::Full,
+        "S3(J(t0/1)(F(t1/2))) => M3(S3(J(H0/4(R4(t0/1)))(H0/4(F(R4(t1/2))))))",
+    ),
+];
 
 #[test]
 fn a_constant_of_a_padded_side_decides_nothing(rt: HostRuntime) -> Result<(), Fail> {
-    for (kind, wanted) in [
-        (
-            JoinKind::Inner,
-            "S3(J(t0/1)(F(t1/2))) => M3(J(H0/4(R4(t0/1)))(H0/4(F(R4(t1/2)))))",
-        ),
-        (
-            JoinKind::Left,
-            "S3(J(t0/1)(F(t1/2))) => M3(S3(J(H0/4(R4(t0/1)))(H0/4(F(R4(t1/2))))))",
-        ),
-        (
-            JoinKind::Right,
-            "S3(J(t0/1)(F(t1/2))) => M3(J(H0/4(R4(t0/1)))(H0/4(F(R4(t1/2)))))",
-        ),
-        (
-            JoinKind::Full,
-            "S3(J(t0/1)(F(t1/2))) => M3(S3(J(H0/4(R4(t0/1)))(H0/4(F(R4(t1/2))))))",
-        ),
-    ] {
+    for (kind, wanted) in PADDED {
         let found = plans(&rt, by(Body::JoinConstant(kind), &[3]))?;
-        assert!(rt; found.as_str() == wanted, "{kind:?}: {found}");
+        assert!(rt; found.as_str() == wanted, "wanted {wanted}: {found}");
     }
     Ok(())
 }
 
+const LIMITS: [(Asked, &str); 4] = [
+    (
+        Asked {
+            body: Body::Column(2),
+            order: &[0],
+            offset: 0,
+            limit: Some(3),
+            count: 4,
+        },
+        "L(S0(P(t2/4))) => L(M0(S0(P(t2/4))))",
+    ),
+    (
+        Asked {
+            body: Body::Column(1),
+            order: &[],
+            offset: 1,
+            limit: None,
+            count: 4,
+        },
+        "L(P(t1/2)) => L(C(P(t1/2)))",
+    ),
+    // One partition needs no exchange.
+    (
+        Asked {
+            body: Body::Groups(1),
+            order: &[0],
+            offset: 0,
+            limit: None,
+            count: 1,
+        },
+        "S0(P(G(g(P(t1/1))))) => S0(P(G(g(P(t1/1)))))",
+    ),
+    (
+        Asked {
+            body: Body::Join(JoinKind::Full),
+            order: &[],
+            offset: 0,
+            limit: None,
+            count: 1,
+        },
+        "J(t0/1)(t1/1) => J(t0/1)(t1/1)",
+    ),
+];
+
 #[test]
 fn limits_and_one_partition(rt: HostRuntime) -> Result<(), Fail> {
-    let sorted = Asked {
-        limit: Some(3),
-        ..by(Body::Column(2), &[0])
-    };
-    let offset = Asked {
-        offset: 1,
-        ..by(Body::Column(1), &[])
-    };
-    // One partition needs no exchange.
-    let single = Asked {
-        count: 1,
-        ..by(Body::Groups(1), &[0])
-    };
-    let joined = Asked {
-        count: 1,
-        ..by(Body::Join(JoinKind::Full), &[])
-    };
-    for (asked, wanted) in [
-        (sorted, "L(S0(P(t2/4))) => L(M0(S0(P(t2/4))))"),
-        (offset, "L(P(t1/2)) => L(C(P(t1/2)))"),
-        (single, "S0(P(G(g(P(t1/1))))) => S0(P(G(g(P(t1/1)))))"),
-        (joined, "J(t0/1)(t1/1) => J(t0/1)(t1/1)"),
-    ] {
+    for (asked, wanted) in LIMITS {
         let found = plans(&rt, asked)?;
-        assert!(rt; found.as_str() == wanted, "{asked:?}: {found}");
+        assert!(rt; found.as_str() == wanted, "wanted {wanted}: {found}");
     }
     Ok(())
 }

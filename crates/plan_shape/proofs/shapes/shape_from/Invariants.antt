@@ -1,4 +1,4 @@
-use Rattle.std.proofs.Common.{◌≡◌, ◌++◌, map, drop, length}
+use Rattle.std.proofs.Common.{◌≡◌, ◌++◌, drop, length}
 use Rattle.physical_plan.specs.Layout.{tasks_from, spills_from, widths_of}
 use Rattle.plan_shape.proofs.shapes.shape_from.Given as goal
 
