@@ -67,7 +67,11 @@ fn shown(rt: &HostRuntime, plan: &Plan) -> Result<String, Fail> {
 fn grouping(alloc: Global) -> Result<Plan, Fail> {
     let groups = partial_group(alloc, dealt(alloc, scan(alloc, 0, 1)?, 2)?, &[0])?;
     let groups = final_group(alloc, hashed(alloc, groups, &[0], 2)?, &[0])?;
-    merge(alloc, sort(alloc, groups, &[ascending(0)])?, &[ascending(0)])
+    merge(
+        alloc,
+        sort(alloc, groups, &[ascending(0)])?,
+        &[ascending(0)],
+    )
 }
 
 fn joined(alloc: Global) -> Result<Plan, Fail> {
