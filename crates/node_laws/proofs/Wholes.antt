@@ -1,27 +1,29 @@
 -- What each node gives stands.
-use Rattle.std.proofs.Common.{ℕ, zero, suc, ◌≡◌, ◌+◌, ◌≤◌, refl, sym, ap, ◌∙◌, subst, Some, List, [], ◌∷◌, map, length, sum, arith}
+use Rattle.std.proofs.Common.{ℕ, true, zero, suc, ◌≡◌, ◌+◌, ◌≤◌, refl, sym, ap, ◌∙◌, subst, Some, List, [], ◌∷◌, map, length, sum, arith}
 use Rattle.dfx_value.specs.declared.op.JoinKind.{JoinKind}
 use Rattle.dfx_value.specs.declared.op.JoinKind.TheVariants.{Inner, Left, Right, Full}
 use Rattle.scalar_exprs.specs.declared.expr.Expr.{Expr}
 use Rattle.plan_props.specs.declared.properties.Partitioning.{Partitioning}
 use Rattle.plan_props.specs.declared.properties.Partitioning.TheVariants as parting
-use Rattle.plan_props.specs.Meets.{Row, Hashing, Each, part, Meets, Places}
-use Rattle.plan_props.proofs.Sound.{each_all, each_map}
+use Rattle.plan_props.specs.declared.properties.Distribution.TheVariants as need
+use Rattle.plan_props.specs.Satisfies.{satisfies_distribution}
+use Rattle.plan_props.specs.Meets.{Row, Hashing, IsHash, Each, part, Meets, Places}
+use Rattle.plan_props.proofs.Sound.{each_all, each_map, and_parts, distribution_sound, order_sound}
 use Rattle.physical_plan.specs.declared.plan.Plan.{Plan}
 use Rattle.physical_plan.specs.declared.plan.Plan.TheOpen.{Plan-F}
 use Rattle.physical_plan.specs.declared.plan.Plan.TheViews.{roll-Plan}
 use Rattle.physical_plan.specs.declared.plan.Plan.TheFolds.{map-Plan, fold-roll-Plan}
 use Rattle.physical_plan.specs.declared.properties.Declared.{Declared}
-use Rattle.physical_plan.specs.Properties.{parts, scattered, filtered, projected, grouped, merged, repartitioned, hash_joined, united, first_width, place_in, kept_columns, item_columns, left_keys, right_keys, state_width, declared, declared_of}
+use Rattle.physical_plan.specs.Properties.{parts, scattered, filtered, projected, grouped, merged, repartitioned, hash_joined, united, first_width, place_in, kept_columns, item_columns, left_keys, right_keys, state_width, declared, declared_of, props}
 use Rattle.physical_plan.specs.Facts.{fact_of}
-use Rattle.physical_plan.specs.Planned.{kids}
+use Rattle.physical_plan.specs.Planned.{kids, group_need, spread_needs, order_needs}
 use Rattle.physical_plan.specs.Joins.{AllMeet, Sides, Within, PairsWithin}
 use Rattle.physical_plan.specs.NodeRows.{by_row, kept, values, Holds, HoldsIn, Joined, united_parts}
 use Rattle.physical_plan.proofs.Filters.{filter_meets, project_meets}
 use Rattle.physical_plan.proofs.Others.{sort_meets, repartition_meets, union_meets, left_join_meets, inner_join_meets}
 use Rattle.node_laws.specs.Weaves.{Interleaves}
 use Rattle.node_laws.specs.Rows.{Begun, RightSides}
-use Rattle.node_laws.specs.Nodes.{IsWide, AllWide, Stands, Input, PlanInput, plans_of, inputs_of, AllStand, declared_inputs, rows_of, HaveWidth, JoinRow, Exchanges, NodeGives, NodeNeeds}
+use Rattle.node_laws.specs.Nodes.{IsWide, AllWide, Stands, Input, PlanInput, plans_of, inputs_of, AllStand, declared_inputs, rows_of, HaveWidth, JoinRow, Exchanges, NodeGives, NodeNeeds, InRange}
 use Rattle.node_laws.proofs.Weavings.{woven_each, merges_interleave, coalesce_meets, merge_meets}
 use Rattle.node_laws.proofs.Cuts.{cut_meets, cut_each, begun_meets, begun_each}
 use Rattle.node_laws.proofs.Dealings.{single_parts, single_hashed, unordered, dealt_from, deal_meets}
@@ -202,3 +204,21 @@ plan_stands h n z outs s need g = subst (λ (d : Declared). Stands h d outs) (sy
 
 pub begun_stands : (h : Hashing) (d : Declared) (whole outs : List (List Row)) → Begun whole outs → Stands h d whole → Stands h d outs
 begun_stands h d whole outs b s = record { meets = begun_meets h d.props whole outs b s.meets; wide = λ j. begun_each (IsWide d.width) whole outs b j (s.wide j); pairs = s.pairs; constants = s.constants }
+
+-- ---- needs that a plan declares to be satisfied
+
+pub needs_met : (h : Hashing) → IsHash h → (n : ℕ) (z : Plan-F PlanInput) → AllStand h (kids (inputs_of z)) → InRange (inputs_of z) → spread_needs n (plans_of z) ≡ true → order_needs (plans_of z) ≡ true → NodeNeeds h n (inputs_of z)
+needs_met h is n (Plan-F.Scan table kinds files partitions) s r d o = tt
+needs_met h is n (Plan-F.Filter i test) s r d o = r
+needs_met h is n (Plan-F.Project i es) s r d o = tt
+needs_met h is n (Plan-F.PartialGroup i keys calls) s r d o = tt
+needs_met h is n (Plan-F.FinalGroup i keys calls) s r d o = distribution_sound h is (props i.0) (group_need keys n) i.1 d s.0.meets
+needs_met h is n (Plan-F.HashJoin kind l t keys rest) s r d o =
+    let a = and_parts (satisfies_distribution (props l.0) (need.JoinHash (left_keys keys) n)) (satisfies_distribution (props t.0) (need.JoinHash (right_keys keys) n)) d in
+    (distribution_sound h is (props l.0) (need.JoinHash (left_keys keys) n) l.1 a.0 s.0.meets, distribution_sound h is (props t.0) (need.JoinHash (right_keys keys) n) t.1 a.1 s.1.0.meets, r.0, r.1)
+needs_met h is n (Plan-F.Sort i keys) s r d o = tt
+needs_met h is n (Plan-F.Merge i keys) s r d o = order_sound h (props i.0) keys i.1 o s.0.meets
+needs_met h is n (Plan-F.Coalesce i) s r d o = tt
+needs_met h is n (Plan-F.Repartition i to) s r d o = tt
+needs_met h is n (Plan-F.UnionAll ks) s r d o = r
+needs_met h is n (Plan-F.Limit i skip fetch) s r d o = tt

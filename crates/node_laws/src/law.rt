@@ -1,17 +1,17 @@
-ghost use Rattle.std.specs.Prelude.{ℕ, ◌≡◌, Option, List, [], ◌∷◌, map, length};
+ghost use Rattle.std.specs.Prelude.{ℕ, ◌≡◌, true, Option, List, [], ◌∷◌, map, length};
 ghost use Rattle.dfx_value.specs.declared.rows.SortKey.{SortKey as Key};
 ghost use Rattle.dfx_value.specs.declared.op.JoinKind.TheVariants.{Right as RightJoin, Full as FullJoin};
 ghost use Rattle.plan_props.specs.declared.properties.Partitioning.TheVariants.{RoundRobin as ByTurns};
-ghost use Rattle.plan_props.specs.Meets.{Row, Hashing, Meets, Delivers, InOrder, AllInOrder};
+ghost use Rattle.plan_props.specs.Meets.{Row, Hashing, IsHash, Meets, Delivers, InOrder, AllInOrder};
 ghost use Rattle.physical_plan.specs.declared.plan.Plan.TheOpen.{Plan-F as Node};
 ghost use Rattle.physical_plan.specs.declared.plan.Plan.TheViews.{roll-Plan};
 ghost use Rattle.physical_plan.specs.declared.plan.Plan.TheFolds.{map-Plan};
 ghost use Rattle.physical_plan.specs.declared.properties.Declared.{Declared as Said};
 ghost use Rattle.physical_plan.specs.Properties.{grouped, merged, repartitioned, hash_joined, declared, declared_of};
-ghost use Rattle.physical_plan.specs.Planned.{kids, group_need};
+ghost use Rattle.physical_plan.specs.Planned.{kids, group_need, spread_needs, order_needs};
 ghost use Rattle.physical_plan.specs.NodeRows.{Joined};
 ghost use Rattle.node_laws.specs.Weaves.{Interleaves, Merges};
-ghost use Rattle.node_laws.specs.Nodes.{Stands, Input, PlanInput, AllStand, NodeNeeds, NodeGives, plans_of, inputs_of};
+ghost use Rattle.node_laws.specs.Nodes.{Stands, Input, PlanInput, AllStand, NodeNeeds, NodeGives, InRange, plans_of, inputs_of};
 ghost use Rattle.node_laws.specs.Rows.{cut, Begun, Dealt, PartGroups, Groups, RightRow, FullRow, RightSides};
 
 /// What a node declares follows from what its inputs declare, for the rows that the node gives.
@@ -56,4 +56,13 @@ pub fn whole_law()
         → Stands h (declared_of (roll-Plan (plans_of node))) outs }
     ensures begun { (h : Hashing) (d : Said) (whole outs : List (List Row))
         → Begun whole outs → Stands h d whole → Stands h d outs }
+{}
+
+/// Where a plan's needs at a node are satisfied by what its inputs declare, as they are everywhere in a finished plan, and the node's
+/// columns are in range, the node's needs are met by rows of which that stands, for every hash that equal key lists have in common.
+pub fn needs_law()
+    ensures { (h : Hashing) → IsHash h → (n : ℕ) (node : Node PlanInput)
+        → AllStand h (kids (inputs_of node)) → InRange (inputs_of node)
+        → spread_needs n (plans_of node) ≡ true → order_needs (plans_of node) ≡ true
+        → NodeNeeds h n (inputs_of node) }
 {}
