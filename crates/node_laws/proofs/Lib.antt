@@ -1,0 +1,9 @@
+pub mod Weavings
+pub mod Cuts
+pub mod Dealings
+pub mod Moves
+pub mod Groupings
+pub mod Paddings
+pub mod Ranges
+pub mod Widths
+pub mod Wholes

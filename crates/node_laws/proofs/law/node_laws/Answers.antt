@@ -1,0 +1,20 @@
+use Rattle.node_laws.proofs.Weavings.{coalesce_meets, gathered_meets, merge_meets}
+use Rattle.node_laws.proofs.Cuts.{cut_meets, begun_meets}
+use Rattle.node_laws.proofs.Dealings.{deal_meets}
+use Rattle.node_laws.proofs.Groupings.{partial_meets, final_meets}
+use Rattle.node_laws.proofs.Paddings.{right_meets, full_meets}
+use Rattle.node_laws.proofs.law.node_laws.Goals as goal
+
+pub returns : goal.returns
+returns c = record {
+  limit = λ h skip fetch d parts m. cut_meets h skip fetch d.props parts m;
+  begun = λ h d whole outs b m. begun_meets h d.props whole outs b m;
+  coalesce = coalesce_meets;
+  merge = merge_meets;
+  in_order = gathered_meets;
+  deal = λ h n d ins outs a m. deal_meets h n d ins outs a m;
+  partial_group = partial_meets;
+  final_group = final_meets;
+  right = λ h keys d e lefts rights outs s m mr o. right_meets h keys d e lefts rights outs s m mr o;
+  full = full_meets;
+}

@@ -1,0 +1,6 @@
+//! Laws on the nodes of physical plans: what a node declares follows from what its inputs declare.
+#![tactic(auto)]
+
+mod law;
+
+pub use law::{needs_law, node_laws, whole_law};

@@ -1,0 +1,6 @@
+use Rattle.std.proofs.Common.{◌≡◌, ◌++◌, map, drop}
+use Rattle.physical_plan.specs.Layout.{Part, numbers}
+use Rattle.plan_shape.proofs.layout.to_all.Given as goal
+
+abbrev pub invariant-loop-part : goal.invariant-loop-part
+invariant-loop-part l = l.all ++ map (λ (p : Part). numbers l.count) (drop l._part-index l.parts) ≡ map (λ (p : Part). numbers l.count) l.parts
