@@ -3,6 +3,7 @@ use crate::shown::show_body;
 use dfx_value::{JoinKind, Kind};
 use join_lowering::{Side, lower_join};
 use logical_plan::Logical;
+use scalar_exprs::Expr;
 use sqlite_items::Items;
 use std::alloc::Global;
 use std::process::Abort;
@@ -18,17 +19,26 @@ fn side(alloc: Global, table: u32) -> Result<Side, Fail> {
     })
 }
 
-/// The join of two such tests on a test, or `none`.
-fn lowered(alloc: Global, kind: JoinKind, on: &str) -> Result<String, Fail> {
-    let test = read(alloc, on)?;
+/// The join of two such tables on a test, where it has one.
+fn joined(alloc: Global, kind: JoinKind, test: Expr) -> Result<Option<Logical>, Fail> {
     let left = side(alloc, 0)?;
     let right = side(alloc, 1)?;
+    Ok(lower_join(alloc, kind, left, right, test)?)
+}
+
+fn shown(alloc: Global, body: Option<Logical>) -> Result<String, Fail> {
     let mut out = String::new(alloc);
-    match lower_join(alloc, kind, left, right, test)? {
+    match body {
         Some(body) => show_body(&mut out, &body)?,
         None => out.push_str("none")?,
     }
     Ok(out)
+}
+
+/// The join on a test as text, or `none`.
+fn lowered(alloc: Global, kind: JoinKind, on: &str) -> Result<String, Fail> {
+    let test = read(alloc, on)?;
+    shown(alloc, joined(alloc, kind, test)?)
 }
 
 fn check(
