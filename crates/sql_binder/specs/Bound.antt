@@ -1,0 +1,28 @@
+-- Meaning: the query of a script over tables of these schemas, or the first refusal.
+use Rattle.std.specs.Prelude.{ℕ, Option, Some, None, List, [], ◌∷◌, map, Ok}
+use Rattle.logical_plan.specs.declared.query.Query.{Query}
+use Rattle.sql_parser.specs.declared.ast.Script.{Script}
+use Rattle.sql_parser.specs.declared.ast.SelectAst.{SelectAst}
+use Rattle.sql_parser.specs.declared.ast.FromAst.TheViews.{out-SelectAst}
+use Rattle.expr_binder.specs.Answer.{Answer, ◌>>=◌}
+use Rattle.expr_binder.specs.Scopes.{Columns}
+use Rattle.sql_binder.specs.declared.schema.Schema.{Schema}
+use Rattle.sql_binder.specs.declared.selected.Selected.{Selected}
+use Rattle.sql_binder.specs.Orders.{Single, order, limit, offset}
+use Rattle.sql_binder.specs.Selects.{select, union_of}
+use Rattle.sql_binder.specs.Tables.{tables_tested}
+
+-- the items of the one select
+abbrev pub single : Columns → List SelectAst → Option Single
+single columns (p ∷ []) = Some (columns, (out-SelectAst p).items)
+single columns _ = None
+
+abbrev pub query_of : Script → Selected → Answer Query
+query_of script s = order s.names (single s.columns script.parts) script.order >>= λ keys.
+    limit script.limit >>= λ l.
+    offset script.offset >>= λ o.
+    Ok (record { names = s.names; body = s.body; order = keys; offset = o; limit = l })
+
+-- tables, then selects and their union, then ORDER BY, LIMIT and OFFSET
+abbrev pub bound : Script → List Schema → Answer Query
+bound script schemas = tables_tested script.tables schemas >>= λ _. union_of (map (select schemas) script.parts) >>= query_of script

@@ -1,0 +1,10 @@
+pub mod Each
+pub mod Tables
+pub mod Sources
+pub mod Items
+pub mod Grouped
+pub mod Unions
+pub mod Selects
+pub mod Orders
+pub mod Bound
+pub mod Refusals

@@ -1,0 +1,107 @@
+-- Meaning: one select, and the tree of selects.
+use Rattle.std.specs.Prelude.{ℕ, Bool, true, false, Option, Some, None, List, [], ◌∷◌, Ok, length, map, if◌then◌else◌}
+use Rattle.logical_plan.specs.declared.plan.Logical.{Logical}
+use Rattle.logical_plan.specs.declared.plan.Logical.TheVariants as plan
+use Rattle.sql_parser.specs.declared.ast.ExprAst.{ExprAst}
+use Rattle.sql_parser.specs.declared.ast.ItemAst.{ItemAst}
+use Rattle.sql_parser.specs.declared.ast.SelectAst.{SelectAst}
+use Rattle.sql_parser.specs.declared.ast.FromAst.TheOpen.{FromAst-F, JoinAst-F, SelectAst-F}
+use Rattle.sql_parser.specs.declared.ast.FromAst.TheFolds.{fold-SelectAst, fold-FromAst, fold-JoinAst}
+use Rattle.sql_parser.specs.declared.ast.FromAst.TheViews.{out-SelectAst}
+use Rattle.sql_parser.specs.declared.ast.FromAst.{FromAst}
+use Rattle.sql_parser.specs.declared.ast.JoinAst.{JoinAst}
+use Rattle.expr_binder.specs.Scopes.{Columns}
+use Rattle.expr_binder.specs.Answer.{Answer, ◌>>=◌}
+use Rattle.expr_binder.specs.Groups.{Over}
+use Rattle.expr_binder.specs.Typed.{Kinded}
+use Rattle.sql_binder.specs.declared.schema.Schema.{Schema}
+use Rattle.sql_binder.specs.declared.sources.Source.{Source}
+use Rattle.sql_binder.specs.declared.selected.Selected.{Selected}
+use Rattle.sql_binder.specs.Each.{each}
+use Rattle.sql_binder.specs.Sources.{Reading, Joining, table, derived, from, filtered}
+use Rattle.sql_binder.specs.declared.items.Output.{Output}
+use Rattle.sql_binder.specs.Items.{outputs, names, exprs, kinds}
+use Rattle.sql_binder.specs.Grouped.{keys, calls, is_grouped, argument, arguments, numbered, key_kinds, aggregated, having}
+use Rattle.sql_binder.specs.Unions.{Placed, united}
+
+-- a select as it is written, behind FROM and WHERE
+pub record Parts : Type 0 where
+  pub distinct : Bool
+  pub items : List ItemAst
+  pub groups : List ExprAst
+  pub having : Option ExprAst
+
+abbrev pub distinct_if : Bool → Logical → Logical
+distinct_if true body = plan.Distinct body
+distinct_if false body = body
+
+abbrev pub projected : Bool → Columns → List Output → Logical → Selected
+projected distinct columns os body = record { columns = columns; names = names os; kinds = kinds os; body = distinct_if distinct (plan.Project body (exprs os)) }
+
+-- the items over the rows themselves
+abbrev pub plain : Bool → List ItemAst → Source → Answer Selected
+plain distinct items s = outputs s.columns None items >>= λ os. Ok (projected distinct s.columns os s.body)
+
+abbrev pub over_keys : Parts → Columns → List ExprAst → List Kinded → Over
+over_keys p columns found ks = Some (record { keys = p.groups; kinds = key_kinds ks; calls = found })
+
+-- the groups behind HAVING
+abbrev pub groups_body : Parts → List ExprAst → Columns → List Kinded → Logical → Answer Logical
+groups_body p found columns ks body = arguments columns (map argument found) >>= λ args.
+    having columns (over_keys p columns found ks) p.having (aggregated body ks args (numbered (length ks) (map argument found)))
+
+-- the columns of the items over groups, and the groups
+abbrev pub over_groups : Parts → List ExprAst → Columns → Logical → Answer (List Output × Logical)
+over_groups p found columns body = keys columns p.groups >>= λ ks.
+    outputs columns (over_keys p columns found ks) p.items >>= λ os.
+    groups_body p found columns ks body >>= λ groups.
+    Ok (os, groups)
+
+abbrev pub grouped : Parts → List ExprAst → Source → Answer Selected
+grouped p found s = over_groups p found s.columns s.body >>= λ g. Ok (projected p.distinct s.columns g.0 g.1)
+
+abbrev pub with_calls : Parts → Source → List ExprAst → Answer Selected
+with_calls p s found = if is_grouped p.groups p.having found then grouped p found s else plain p.distinct p.items s
+
+abbrev pub selected : Parts → Source → Answer Selected
+selected p s = with_calls p s (calls s.columns p.items p.having)
+
+-- ---- the tree
+
+-- a select, at its place
+pub record Selecting : Type 0 where
+  pub place : ℕ
+  pub select : Answer Selected
+
+abbrev pub placed : Selecting → Answer Placed
+placed s = s.select >>= λ x. Ok (s.place, x)
+
+-- all selects are bound, and then united
+abbrev pub union_of : List Selecting → Answer Selected
+union_of ss = each placed ss >>= united
+
+abbrev pub reading : List Schema → FromAst-F Reading Joining Selecting → Reading
+reading schemas (FromAst-F.Named name alias place) = record { alias = alias; place = place; source = table schemas place name alias }
+reading schemas (FromAst-F.Derived parts alias place) = record { alias = alias; place = place; source = union_of parts >>= λ s. Ok (derived alias s) }
+
+abbrev pub joining : JoinAst-F Reading Joining Selecting → Joining
+joining j = record { kind = j.kind; right = j.right; on = j.on }
+
+abbrev pub parts_of : {A B C : Type 0} → SelectAst-F A B C → Parts
+parts_of s = record { distinct = s.distinct; items = s.items; groups = s.groups; having = s.having }
+
+abbrev pub parts : SelectAst → Parts
+parts s = parts_of (out-SelectAst s)
+
+abbrev pub selecting : SelectAst-F Reading Joining Selecting → Selecting
+selecting s = record { place = s.place; select = from s.first s.joins >>= filtered s.test >>= selected (parts_of s) }
+
+-- a select over tables of these schemas, and what stands in it
+unfoldable pub select : List Schema → SelectAst → Selecting
+select schemas = fold-SelectAst Reading Joining Selecting (reading schemas) joining selecting
+
+unfoldable pub reading_of : List Schema → FromAst → Reading
+reading_of schemas = fold-FromAst Reading Joining Selecting (reading schemas) joining selecting
+
+unfoldable pub joining_of : List Schema → JoinAst → Joining
+joining_of schemas = fold-JoinAst Reading Joining Selecting (reading schemas) joining selecting

@@ -1,0 +1,299 @@
+//! The columns that the items of a select give.
+
+ghost use Rattle.std.specs.Prelude.{◌≡◌, ◌<◌, ◌++◌, ◌∷◌, [], All, IfOk, length, codes};
+ghost use Rattle.std.specs.Option.{option_copied};
+ghost use Rattle.expr_binder.specs.Answer.{Gives};
+ghost use Rattle.std.specs.Fmt.{decimal};
+ghost use Rattle.scalar_exprs.specs.declared.expr.Expr.TheVariants as expr;
+ghost use Rattle.expr_binder.specs.Meaning.{column_kind};
+ghost use Rattle.sql_binder.specs.Each.{each};
+ghost use Rattle.sql_binder.specs.Items as spec;
+
+use crate::sources::{is_under, is_unknown, small};
+use dfx_value::{Kind, NoMemory, Seq, Text};
+use expr_binder::{Column, Grouping, Refusal, Unbound, Why, bind_expr, column_of, settle};
+use scalar_exprs::Expr;
+use sql_parser::ast::{ExprAst, ItemAst, NodeAst};
+use sqlite_items::Items;
+use std::alloc::Global;
+
+/// A column of the answer.
+#[derive(Debug, Drop)]
+pub struct Output {
+    pub name: Text,
+    pub expr: Expr,
+    pub kind: Kind,
+}
+
+/// Whether an expression is the name of this column.
+#[tactic(auto, unfolding(crate::specs::Items::is_column))]
+pub fn is_column(columns: &[Column], number: usize, expr: &ExprAst) -> bool
+    ensures { result ≡ spec.is_column columns.now number expr.now }
+{
+    match &expr.node {
+        NodeAst::Name(alias, name) => match column_of(columns, 0, alias, name) {
+            Ok(found) => found == number,
+            Err(_) => false,
+        },
+        _ => false,
+    }
+}
+
+/// The place of the first key that is this column.
+fn key_of(columns: &[Column], number: usize, keys: &[ExprAst]) -> Option<usize>
+    ensures { result ≡ spec.key_from columns.now number 0 keys.now }
+{
+    for at in 0..keys.len() {
+        if is_column(columns, number, &keys[at]) {
+            return Some(at);
+        }
+    }
+    None
+}
+
+fn kind_of_key(kinds: &[Kind], at: usize) -> Kind
+    ensures { result ≡ column_kind kinds.now at }
+{
+    match kinds.get(at) {
+        Some(kind) => *kind,
+        None => Kind::Text,
+    }
+}
+
+/// A column itself.
+fn own_column(alloc: Global, column: &Column, number: usize) -> Result<Output, NoMemory>
+    ensures { IfOk result (λ o. o ≡ record { name = column.now.name; expr = expr.Column number; kind = column.now.kind }) }
+{
+    Ok(Output {
+        name: column.name.copy(alloc)?,
+        expr: Expr::Column(small(number)?),
+        kind: column.kind,
+    })
+}
+
+/// The first key that is this column.
+fn key_column(
+    alloc: Global,
+    columns: &[Column],
+    grouping: &Grouping<'_>,
+    place: u32,
+    column: &Column,
+    number: usize,
+) -> Result<Output, Unbound>
+    ensures { Gives result (spec.of_key grouping.now place column.now.name (spec.key_from columns.now number 0 grouping.now.keys)) }
+{
+    match key_of(columns, number, grouping.keys) {
+        None => Err(Unbound::from(Refusal::new(Why::NotGrouped, place))),
+        Some(key) => Ok(Output {
+            name: column.name.copy(alloc)?,
+            expr: Expr::Column(small(key)?),
+            kind: kind_of_key(grouping.kinds, key),
+        }),
+    }
+}
+
+/// A column that `*` gives: itself, or over groups the first key that is this column.
+fn star(
+    alloc: Global,
+    columns: &[Column],
+    over: Option<&Grouping<'_>>,
+    place: u32,
+    number: usize,
+) -> Result<Output, Unbound>
+    requires { number < length columns.now }
+    ensures { Gives result (spec.star columns.now (option_copied over.entry) place number) }
+{
+    let column = &columns[number];
+    match over {
+        None => Ok(own_column(alloc, column, number)?),
+        Some(grouping) => key_column(alloc, columns, grouping, place, column, number),
+    }
+}
+
+/// Whether `*`, or `alias.*`, gives this column.
+fn is_given(alias: Option<&Text>, column: &Column) -> bool
+    ensures { result ≡ spec.is_given (option_copied alias.entry) column.now }
+{
+    match alias {
+        None => true,
+        Some(alias) => is_under(alias, column),
+    }
+}
+
+/// The numbers of the columns that `*`, or `alias.*`, gives.
+fn given(alloc: Global, columns: &[Column], alias: Option<&Text>) -> Result<Vec<usize>, NoMemory>
+    ensures numbers { IfOk result (λ numbers. numbers.items ≡ spec.given (option_copied alias.entry) columns.now) }
+    ensures within { IfOk result (λ numbers. All (λ n. n < length columns.now) numbers.items) }
+{
+    let mut numbers = Vec::new(alloc);
+    for number in 0..columns.len() {
+        if is_given(alias, &columns[number]) {
+            numbers.push(number)?;
+        }
+    }
+    Ok(numbers)
+}
+
+fn stars_of(
+    alloc: Global,
+    columns: &[Column],
+    over: Option<&Grouping<'_>>,
+    place: u32,
+    numbers: &[usize],
+) -> Result<Seq<Output>, Unbound>
+    requires { All (λ n. n < length columns.now) numbers.now }
+    ensures { Gives result (each (spec.star columns.now (option_copied over.entry) place) numbers.now) }
+{
+    let mut outputs = Vec::with_capacity(alloc, numbers.len())?;
+    for number in numbers {
+        outputs.push(star(alloc, columns, over, place, *number)?)?;
+    }
+    Ok(Seq::from_vec(outputs))
+}
+
+/// The columns that `*`, or `alias.*`, gives. UnknownTable where no table has the alias.
+fn stars(
+    alloc: Global,
+    columns: &[Column],
+    over: Option<&Grouping<'_>>,
+    place: u32,
+    alias: Option<&Text>,
+) -> Result<Seq<Output>, Unbound>
+    ensures { Gives result (spec.stars columns.now (option_copied over.entry) place (option_copied alias.entry)) }
+{
+    if is_unknown(alias, columns) {
+        return Err(Unbound::from(Refusal::new(Why::UnknownTable, place)));
+    }
+    let numbers = given(alloc, columns, alias)?;
+    stars_of(alloc, columns, over, place, &numbers)
+}
+
+/// `c` and a position.
+fn numbered_name(alloc: Global, position: usize) -> Result<Text, NoMemory>
+    ensures { IfOk result (λ name. name ≡ codes "c" ++ decimal position) }
+{
+    Ok(Text::from_string(format!(in alloc; "c{position}")?))
+}
+
+/// The name that is given, else that of the column which the item is, or `c` and its position, from 1.
+fn item_name(
+    alloc: Global,
+    position: usize,
+    expr: &ExprAst,
+    name: &Option<Text>,
+) -> Result<Text, NoMemory>
+    ensures { IfOk result (λ n. n ≡ spec.item_name position expr.now name.now) }
+{
+    match name {
+        Some(name) => name.copy(alloc),
+        None => match &expr.node {
+            NodeAst::Name(_, name) => name.copy(alloc),
+            _ => numbered_name(alloc, position),
+        },
+    }
+}
+
+/// The one column of an item that is an expression.
+fn expr_output(
+    alloc: Global,
+    columns: &[Column],
+    over: Option<&Grouping<'_>>,
+    position: usize,
+    expr: &ExprAst,
+    name: &Option<Text>,
+) -> Result<Output, Unbound>
+    ensures { Gives result (spec.expr_output columns.now (option_copied over.entry) position expr.now name.now) }
+{
+    let (bound, kind) = settle(bind_expr(alloc, columns, over, expr)?);
+    Ok(Output {
+        name: item_name(alloc, position, expr, name)?,
+        expr: bound,
+        kind,
+    })
+}
+
+fn one_output(alloc: Global, output: Output) -> Result<Seq<Output>, NoMemory>
+    ensures { IfOk result (λ os. os ≡ output ∷ []) }
+{
+    let mut outputs = Vec::new(alloc);
+    outputs.push(output)?;
+    Ok(Seq::from_vec(outputs))
+}
+
+/// The columns of an item that begins at a position.
+fn outputs_of(
+    alloc: Global,
+    columns: &[Column],
+    over: Option<&Grouping<'_>>,
+    position: usize,
+    item: &ItemAst,
+) -> Result<Seq<Output>, Unbound>
+    ensures { Gives result (spec.outputs_of columns.now (option_copied over.entry) position item.now) }
+{
+    match item {
+        ItemAst::All { place } => stars(alloc, columns, over, *place, None),
+        ItemAst::AllOf { name, place } => stars(alloc, columns, over, *place, Some(name)),
+        ItemAst::One { expr, name } => {
+            let output = expr_output(alloc, columns, over, position, expr, name)?;
+            Ok(one_output(alloc, output)?)
+        }
+    }
+}
+
+fn appended(done: Seq<Output>, more: Seq<Output>) -> Result<Seq<Output>, NoMemory>
+    ensures { IfOk result (λ all. all ≡ done ++ more) }
+{
+    let mut all = done.into_vec();
+    let mut more = more.into_vec();
+    all.append(&mut more)?;
+    Ok(Seq::from_vec(all))
+}
+
+/// The columns of all items, in order.
+pub fn outputs(
+    alloc: Global,
+    columns: &[Column],
+    over: Option<&Grouping<'_>>,
+    items: &[ItemAst],
+) -> Result<Seq<Output>, Unbound>
+    ensures { Gives result (spec.outputs columns.now (option_copied over.entry) items.now) }
+{
+    let mut done = Seq::from_vec(Vec::new(alloc));
+    for item in items {
+        let position = done.len() + 1;
+        let more = outputs_of(alloc, columns, over, position, item)?;
+        done = appended(done, more)?;
+    }
+    Ok(done)
+}
+
+/// Columns of an answer, as lists of their parts.
+#[derive(Debug, Drop)]
+pub struct Lists {
+    pub names: Seq<Text>,
+    pub exprs: Items<Expr>,
+    pub kinds: Seq<Kind>,
+}
+
+/// The names, the expressions and the kinds, each in order.
+pub fn taken_apart(alloc: Global, outputs: Seq<Output>) -> Result<Lists, NoMemory>
+    ensures names { IfOk result (λ l. l.names ≡ spec.names outputs) }
+    ensures exprs { IfOk result (λ l. l.exprs ≡ spec.exprs outputs) }
+    ensures kinds { IfOk result (λ l. l.kinds ≡ spec.kinds outputs) }
+{
+    let outputs = outputs.into_vec();
+    let mut names = Vec::with_capacity(alloc, outputs.len())?;
+    let mut exprs = Items::new(alloc);
+    let mut kinds = Vec::with_capacity(alloc, outputs.len())?;
+    for output in outputs {
+        let Output { name, expr, kind } = output;
+        names.push(name)?;
+        exprs.push(expr)?;
+        kinds.push(kind)?;
+    }
+    Ok(Lists {
+        names: Seq::from_vec(names),
+        exprs,
+        kinds: Seq::from_vec(kinds),
+    })
+}

@@ -1,0 +1,19 @@
+//! The meaning of scripts: names, kinds and groups, down to a query.
+#![tactic(auto)]
+
+mod aggregates;
+mod binding;
+mod groups;
+mod items;
+mod orders;
+mod refused;
+mod schema;
+mod selected;
+mod selects;
+mod sources;
+mod tables;
+mod unions;
+
+pub use binding::bind;
+pub use refused::BindRefused;
+pub use schema::Schema;

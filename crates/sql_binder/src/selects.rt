@@ -1,0 +1,271 @@
+//! Selects, and the tree of them.
+
+ghost use Rattle.std.specs.Prelude.{◌≡◌, IfOk, Some, map};
+ghost use Rattle.expr_binder.specs.Answer.{Gives};
+ghost use Rattle.sql_binder.specs.Each.{each};
+ghost use Rattle.sql_binder.specs.Items.{outputs as spec_outputs};
+ghost use Rattle.sql_binder.specs.Selects as spec;
+ghost use Rattle.sql_binder.specs.Sources as sources;
+
+use crate::aggregates::{aggregated, arguments, calls, having, is_grouped, numbered};
+use crate::groups::{key_kinds, keys};
+use crate::items::{Output, outputs, taken_apart};
+use crate::schema::Schema;
+use crate::selected::Selected;
+use crate::sources::{Source, derived, filtered, has_alias, join_sources, table};
+use crate::unions::united;
+use dfx_value::{Kind, NoMemory, Seq, Text};
+use expr_binder::{Column, Grouping, Refusal, Unbound, Why};
+use logical_plan::Logical;
+use scalar_exprs::Expr;
+use sql_parser::ast::{ExprAst, FromAst, ItemAst, JoinAst, SelectAst};
+use sqlite_items::Boxed;
+use std::alloc::Global;
+
+/// A Project of the items, and a Distinct on top where it is written.
+fn projected(
+    alloc: Global,
+    distinct: bool,
+    columns: Seq<Column>,
+    items: Seq<Output>,
+    body: Logical,
+) -> Result<Selected, NoMemory>
+    ensures { IfOk result (λ s. s ≡ spec.projected distinct columns items body) }
+{
+    let lists = taken_apart(alloc, items)?;
+    let projected = Logical::Project {
+        input: Boxed::new(alloc, body)?,
+        items: lists.exprs,
+    };
+    let body = if distinct {
+        Logical::Distinct {
+            input: Boxed::new(alloc, projected)?,
+        }
+    } else {
+        projected
+    };
+    Ok(Selected {
+        columns,
+        names: lists.names,
+        kinds: lists.kinds,
+        body,
+    })
+}
+
+/// The items over the rows themselves.
+fn plain(
+    alloc: Global,
+    distinct: bool,
+    items: &[ItemAst],
+    source: Source,
+) -> Result<Selected, Unbound>
+    ensures { Gives result (spec.plain distinct items.now source) }
+{
+    let found = outputs(alloc, source.columns.as_slice(), None, items)?;
+    Ok(projected(alloc, distinct, source.columns, found, source.body)?)
+}
+
+/// The columns of the items over groups.
+fn group_outputs(
+    alloc: Global,
+    select: &SelectAst,
+    calls: &[ExprAst],
+    columns: &[Column],
+    kinds: &[Kind],
+) -> Result<Seq<Output>, Unbound>
+    ensures { Gives result (spec_outputs columns.now (Some (record { keys = (spec.parts select.now).groups; kinds = kinds.now; calls = calls.now })) (spec.parts select.now).items) }
+{
+    let over = Grouping {
+        keys: select.groups.as_slice(),
+        kinds,
+        calls,
+    };
+    outputs(alloc, columns, Some(&over), select.items.as_slice())
+}
+
+/// The groups, behind HAVING.
+fn groups_body(
+    alloc: Global,
+    select: &SelectAst,
+    calls: &[ExprAst],
+    columns: &[Column],
+    keys: Seq<(Expr, Kind)>,
+    body: Logical,
+) -> Result<Logical, Unbound>
+    ensures { Gives result (spec.groups_body (spec.parts select.now) calls.now columns.now keys body) }
+{
+    let kinds = key_kinds(alloc, keys.as_slice())?;
+    let arguments = arguments(alloc, columns, calls)?;
+    let numbered = numbered(alloc, keys.len(), calls)?;
+    let grouped = aggregated(alloc, body, keys, arguments, numbered)?;
+    let over = Grouping {
+        keys: select.groups.as_slice(),
+        kinds: kinds.as_slice(),
+        calls,
+    };
+    having(alloc, columns, &over, &select.having, grouped)
+}
+
+/// The columns of the items over groups, and the groups.
+fn over_groups(
+    alloc: Global,
+    select: &SelectAst,
+    calls: &[ExprAst],
+    columns: &[Column],
+    body: Logical,
+) -> Result<(Seq<Output>, Logical), Unbound>
+    ensures { Gives result (spec.over_groups (spec.parts select.now) calls.now columns.now body) }
+{
+    let keys = keys(alloc, columns, select.groups.as_slice())?;
+    let kinds = key_kinds(alloc, keys.as_slice())?;
+    let found = group_outputs(alloc, select, calls, columns, kinds.as_slice())?;
+    let body = groups_body(alloc, select, calls, columns, keys, body)?;
+    Ok((found, body))
+}
+
+fn grouped(
+    alloc: Global,
+    select: &SelectAst,
+    calls: &[ExprAst],
+    source: Source,
+) -> Result<Selected, Unbound>
+    ensures { Gives result (spec.grouped (spec.parts select.now) calls.now source) }
+{
+    let Source { columns, body } = source;
+    let (found, body) = over_groups(alloc, select, calls, columns.as_slice(), body)?;
+    Ok(projected(alloc, select.distinct, columns, found, body)?)
+}
+
+/// A select behind FROM and WHERE.
+fn selected(alloc: Global, select: &SelectAst, source: Source) -> Result<Selected, Unbound>
+    ensures { Gives result (spec.selected (spec.parts select.now) source) }
+{
+    let items = select.items.as_slice();
+    let found = calls(alloc, source.columns.as_slice(), items, &select.having)?;
+    if is_grouped(select.groups.as_slice(), &select.having, found.as_slice()) {
+        grouped(alloc, select, found.as_slice(), source)
+    } else {
+        plain(alloc, select.distinct, items, source)
+    }
+}
+
+/// A table or a derived one, under an alias that none before it has.
+#[tactic(auto, using(crate::proofs::SelectSteps::selects))]
+#[cycle(select)]
+fn read(
+    alloc: Global,
+    schemas: &[Schema],
+    before: &[Column],
+    from: &FromAst,
+) -> Result<Source, Unbound>
+    ensures { Gives result (sources.under_new_alias before.now (spec.reading_of schemas.now from.now)) }
+{
+    match from {
+        FromAst::Named {
+            table: name,
+            alias,
+            place,
+        } => {
+            let source = table(alloc, schemas, *place, name, alias)?;
+            under_new_alias(before, alias, *place, source)
+        }
+        FromAst::Derived {
+            parts,
+            alias,
+            place,
+        } => {
+            let selected = bind_parts(alloc, schemas, parts.as_slice())?;
+            let source = derived(alloc, alias, selected)?;
+            under_new_alias(before, alias, *place, source)
+        }
+    }
+}
+
+fn under_new_alias(
+    before: &[Column],
+    alias: &Text,
+    place: u32,
+    source: Source,
+) -> Result<Source, Unbound>
+    ensures { Gives result (sources.if_new before.now alias.now place source) }
+{
+    if has_alias(alias, before) {
+        return Err(Unbound::from(Refusal::new(Why::Ambiguous, place)));
+    }
+    Ok(source)
+}
+
+/// A join, behind what is read so far.
+#[tactic(auto, using(crate::proofs::SelectSteps::selects))]
+#[cycle(select)]
+fn read_join(
+    alloc: Global,
+    schemas: &[Schema],
+    join: &JoinAst,
+    left: Source,
+) -> Result<Source, Unbound>
+    ensures { Gives result (sources.joined left (spec.joining_of schemas.now join.now)) }
+{
+    let right = read(alloc, schemas, left.columns.as_slice(), &join.right)?;
+    join_sources(alloc, join.kind, left, right, &join.on)
+}
+
+/// What is read first, joined with each of the others in turn.
+#[tactic(auto, using(crate::proofs::SelectSteps::selects))]
+#[cycle(select)]
+fn read_joins(
+    alloc: Global,
+    schemas: &[Schema],
+    joins: &[JoinAst],
+    first: Source,
+) -> Result<Source, Unbound>
+    ensures { Gives result (sources.all_joined first (map (spec.joining_of schemas.now) joins.now)) }
+{
+    let mut source = first;
+    for join in joins {
+        source = read_join(alloc, schemas, join, source)?;
+    }
+    Ok(source)
+}
+
+/// One select: FROM with its joins, WHERE, and what the items are over that.
+#[tactic(auto, using(crate::proofs::SelectSteps::selects))]
+#[cycle(select)]
+fn bind_select(alloc: Global, schemas: &[Schema], select: &SelectAst) -> Result<Selected, Unbound>
+    ensures { Gives result (spec.select schemas.now select.now).select }
+{
+    let first = read(alloc, schemas, &[], &select.first)?;
+    let source = read_joins(alloc, schemas, select.joins.as_slice(), first)?;
+    let source = filtered(alloc, &select.test, source)?;
+    selected(alloc, select, source)
+}
+
+#[tactic(auto, using(crate::proofs::SelectSteps::selects))]
+#[cycle(select)]
+fn bind_all(
+    alloc: Global,
+    schemas: &[Schema],
+    parts: &[SelectAst],
+) -> Result<Seq<(u32, Selected)>, Unbound>
+    ensures { Gives result (each spec.placed (map (spec.select schemas.now) parts.now)) }
+{
+    let mut done = Vec::new(alloc);
+    for part in parts {
+        let selected = bind_select(alloc, schemas, part)?;
+        done.push((part.place, selected))?;
+    }
+    Ok(Seq::from_vec(done))
+}
+
+/// Selects that are united, of which there is one at least.
+#[cycle(select)]
+pub fn bind_parts(
+    alloc: Global,
+    schemas: &[Schema],
+    parts: &[SelectAst],
+) -> Result<Selected, Unbound>
+    ensures { Gives result (spec.union_of (map (spec.select schemas.now) parts.now)) }
+{
+    let done = bind_all(alloc, schemas, parts)?;
+    united(alloc, done.into_vec())
+}
