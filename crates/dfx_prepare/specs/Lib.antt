@@ -2,3 +2,4 @@ pub mod ListText
 pub mod ExprText
 pub mod NodeText
 pub mod PlanText
+pub mod Failures
