@@ -4,3 +4,8 @@ pub mod ListSteps
 pub mod ExprSteps
 pub mod NodeSteps
 pub mod LineSteps
+pub mod Ordered
+pub mod Listed
+pub mod TableSteps
+pub mod ScriptSteps
+pub mod WholeSteps

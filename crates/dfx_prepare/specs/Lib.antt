@@ -3,3 +3,6 @@ pub mod ExprText
 pub mod NodeText
 pub mod PlanText
 pub mod Failures
+pub mod Listings
+pub mod Preparing
+pub mod Outcomes

@@ -1,0 +1,14 @@
+use dfx_value::{Seq, Text};
+use logical_plan::Query;
+use physical_plan::Plan;
+
+/// A script's query with its finished plan, and the tables' files.
+#[derive(Drop)]
+pub struct Prepared {
+    pub query: Query,
+    pub plan: Plan,
+    /// The files of each table, in the order of the statements.
+    pub paths: Seq<Seq<Text>>,
+    /// For each table whether its files are Arrow files.
+    pub arrow: Seq<bool>,
+}
