@@ -1,6 +1,6 @@
 -- The listing of a folder is the one list of its paths in order.
-use Rattle.std.proofs.Common.{◌≡◌, refl, ℕ, List, map, filter, Bool, true, false, Result, Ok, Err, if◌then◌else◌}
-use Rattle.dfx_outside.specs.Contents.{Contents, has_folder, is_inside, Lists}
+use Rattle.std.proofs.Common.{◌≡◌, refl, ℕ, List, map, filter, Ok}
+use Rattle.dfx_outside.specs.Contents.{Contents, is_inside, Lists}
 use Rattle.dfx_prepare.specs.Listings.{listing, is_csv}
 use Rattle.dfx_prepare.specs.Preparing.{folder_files}
 use Rattle.dfx_prepare.proofs.Ordered.{in_order_is}

@@ -1,7 +1,7 @@
 -- Counts of faults and absences over several calls, and what follows a refusal.
-use Rattle.std.proofs.Common.{◌≡◌, refl, ℕ, ◌≤◌, arith, Result, Ok, Err}
+use Rattle.std.proofs.Common.{◌≡◌, refl, ℕ, ◌≤◌, arith, Result, Err}
 use Rattle.dfx_outside.specs.Causes.{Rose}
-use Rattle.dfx_prepare.specs.Outcomes.{Answers, OrMemory}
+use Rattle.dfx_prepare.specs.Outcomes.{Answers}
 use Rattle.dfx_prepare.specs.Preparing.{followed}
 use Rattle.dfx_prepare.specs.declared.failure.Failure.{Failure}
 use Rattle.dfx_prepare.specs.declared.failure.Failure.TheVariants as failure

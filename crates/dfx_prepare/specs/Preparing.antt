@@ -76,12 +76,15 @@ query_of script = of_bound (bound script (map schema_of script.tables))
 abbrev pub plan_of : Query → List ℕ → ℕ → Plan
 plan_of q files n = enforce_sorting (enforce_distribution (build q files n) n)
 
+abbrev pub table_names : List TableAst → List (List ℕ)
+table_names tables = map (λ t. t.name) tables
+
 abbrev pub are_arrow : List TableAst → List Bool
 are_arrow tables = map (λ t. t.arrow) tables
 
 -- a query over these files of the tables
 abbrev pub with_files : List TableAst → ℕ → List (List Path) → Query → Prepared
-with_files tables n paths q = record { query = q; plan = plan_of q (map length paths) n; paths = paths; arrow = are_arrow tables }
+with_files tables n paths q = record { query = q; plan = plan_of q (map length paths) n; tables = table_names tables; paths = paths; arrow = are_arrow tables }
 
 -- what a script is prepared to over these files of its tables
 abbrev pub prepared_over : Script → ℕ → List (List Path) → Result Prepared Failure

@@ -52,6 +52,17 @@ pub fn schemas_of(alloc: Global, tables: &[TableAst]) -> Result<Vec<Schema>, NoM
     Ok(schemas)
 }
 
+/// The names of the tables.
+pub fn table_names(alloc: Global, tables: &[TableAst]) -> Result<Seq<Text>, NoMemory>
+    ensures { IfOk result (λ names. names ≡ spec.table_names tables.now) }
+{
+    let mut names = Vec::with_capacity(alloc, tables.len())?;
+    for table in tables {
+        names.push(table.name.copy(alloc)?)?;
+    }
+    Ok(Seq::from_vec(names))
+}
+
 /// For each table whether its files are Arrow files.
 pub fn are_arrow(alloc: Global, tables: &[TableAst]) -> Result<Seq<bool>, NoMemory>
     ensures { IfOk result (λ arrow. arrow ≡ spec.are_arrow tables.now) }

@@ -7,7 +7,9 @@ use physical_plan::Plan;
 pub struct Prepared {
     pub query: Query,
     pub plan: Plan,
-    /// The files of each table, in the order of the statements.
+    /// The names of the tables, in the order of the statements.
+    pub tables: Seq<Text>,
+    /// The files of each table, in the same order.
     pub paths: Seq<Seq<Text>>,
     /// For each table whether its files are Arrow files.
     pub arrow: Seq<bool>,

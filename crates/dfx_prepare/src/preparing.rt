@@ -11,7 +11,7 @@ ghost use Rattle.dfx_prepare.specs.Preparing as spec;
 ghost use Rattle.dfx_prepare.specs.declared.failure.Failure.{Failure as Refusal};
 ghost use Rattle.dfx_prepare.specs.declared.failure.Failure.TheVariants as failure;
 
-use crate::declared::{are_arrow, counts_of, schemas_of};
+use crate::declared::{are_arrow, counts_of, schemas_of, table_names};
 use crate::failure::Failure;
 use crate::prepared::Prepared;
 use crate::tables::files_of;
@@ -120,11 +120,13 @@ fn prepare_over(
     ensures querying { IfErr result IsQuerying }
 {
     let counts = counts_of(alloc, paths.as_slice())?;
+    let tables = table_names(alloc, script.tables.as_slice())?;
     let arrow = are_arrow(alloc, script.tables.as_slice())?;
     let (query, plan) = planned_query(alloc, script, counts.as_slice(), n)?;
     Ok(Prepared {
         query,
         plan,
+        tables,
         paths,
         arrow,
     })

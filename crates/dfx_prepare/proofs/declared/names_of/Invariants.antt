@@ -1,5 +1,4 @@
-use Rattle.std.proofs.Common.{◌≡◌, take, map, length}
-use Rattle.dfx_prepare.specs.Preparing as spec
+use Rattle.std.proofs.Common.{◌≡◌, take, map}
 use Rattle.dfx_prepare.proofs.declared.names_of.Given as goal
 
 -- those so far

@@ -1,4 +1,4 @@
-use Rattle.std.proofs.Common.{◌≡◌, take, map, length}
+use Rattle.std.proofs.Common.{◌≡◌, take, map}
 use Rattle.dfx_prepare.specs.Preparing as spec
 use Rattle.dfx_prepare.proofs.declared.schemas_of.Given as goal
 

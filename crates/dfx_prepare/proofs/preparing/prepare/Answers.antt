@@ -1,4 +1,3 @@
-use Rattle.std.proofs.Common.{◌≡◌, Ok}
 use Rattle.dfx_prepare.specs.Preparing.{script_of, prepared_script}
 use Rattle.dfx_prepare.proofs.WholeSteps.{answer_goes_on, whole_text, no_refusal}
 use Rattle.dfx_prepare.proofs.preparing.prepare.Goals as goal

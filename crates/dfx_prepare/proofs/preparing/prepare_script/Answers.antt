@@ -1,4 +1,3 @@
-use Rattle.std.proofs.Common.{◌≡◌, ◌∙◌, ap, length, Ok}
 use Rattle.dfx_prepare.specs.Preparing.{files_of, prepared_over}
 use Rattle.dfx_prepare.proofs.WholeSteps.{memory_answers, answer_goes_on, whole_over}
 use Rattle.dfx_prepare.proofs.preparing.prepare_script.Goals as goal

@@ -1,4 +1,4 @@
-use Rattle.std.proofs.Common.{◌≡◌, ◌∙◌, Ok, filter}
+use Rattle.std.proofs.Common.{◌∙◌}
 use Rattle.dfx_prepare.proofs.Listed.{listed_files}
 use Rattle.dfx_prepare.proofs.tables.folder_files.Goals as goal
 
