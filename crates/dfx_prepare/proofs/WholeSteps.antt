@@ -1,5 +1,5 @@
 -- What is prepared over the files of the tables.
-use Rattle.std.proofs.Common.{◌≡◌, sym, ap, ◌∙◌, ℕ, List, length, Result, Ok, Err, IfOk, IfErr}
+use Rattle.std.proofs.Common.{◌≡◌, sym, ap, ◌∙◌, ℕ, List, length, Result, Ok, Err, IfOk, IfErr, subst}
 use Rattle.sql_parser.specs.declared.ast.Script.{Script}
 use Rattle.dfx_prepare.specs.Outcomes.{OrMemory, Answers, IsReading, IsListing, IsQuerying, IsPreparing}
 use Rattle.dfx_prepare.specs.Preparing.{Path, followed, prepared_over, IsOf, IsOfScript}
@@ -31,6 +31,11 @@ memory_ends {A = A} f e next h = refusal_ends f e next (memory_answers {A = A} (
 -- after an answer the next is answered
 pub answer_goes_on : {A B : Type 0} (e : Result A Failure) (x : A) (next : A → Result B Failure) (r : Result B Failure) → e ≡ Ok x → Answers r (next x) → Answers r (followed e next)
 answer_goes_on e x next r is h = rw (is) h
+
+-- what holds of the value that a result has holds of the result
+pub if_ok_as : {A E : Type 0} (P : A → Type 0) (x : A) (r : Result A E) → P x → IfOk r (λ y. y ≡ x) → IfOk r P
+if_ok_as P x (Ok y) h is = subst P (sym is) h
+if_ok_as P x (Err e) h is = tt
 
 -- ---- failures of the parts
 
