@@ -10,7 +10,7 @@ use Rattle.csv_source.specs.CsvItems.{Item, items_from, and_then, record_item, i
 use Rattle.csv_source.specs.Records.{Fields, Takes, HasNone}
 use Rattle.csv_source.specs.Rows.{Gives}
 use Rattle.csv_source.specs.ScanView.{left_count}
-use Rattle.csv_source.specs.Scans.{Counts, rows_then, GivesRows, IsRefused}
+use Rattle.csv_source.specs.Scans.{Counts, rows_then, GivesRow, GivesRows, IsRefused}
 
 -- a record that was taken had a number that fits, and so has the next
 pub number_fits : (o now : Option (List Fields)) (fields : Fields) (n : ℕ) → Takes o fields now → Counts o n → n + 1 < 2 ^ 64
@@ -31,14 +31,23 @@ moved : (rows : List (List Cell)) (row : List Cell) (items : List Item) → map 
 moved [] row items = refl
 moved (r ∷ rs) row items = ap (λ (xs : List Item). Ok r ∷ xs) (moved rs row items)
 
--- the row of the next record goes from the items to the rows
-pub items_after : (o now : Option (List Fields)) (kinds : List Kind) (n : ℕ) (fields : Fields) (rows : List (List Cell)) (row : List Cell)
-    → Takes o fields now → Counts o n → record_item kinds n fields ≡ Ok row
-    → option_map (rows_then (rows ++ row ∷ [])) (option_map (items_from kinds (n + 1)) now) ≡ option_map (rows_then rows) (option_map (items_from kinds n) o)
-items_after None now kinds n fields rows row t c e = absurd c
-items_after (Some []) now kinds n fields rows row t c e = absurd t
-items_after (Some (r ∷ rs)) now kinds n fields rows row t c e =
-    rw (t.1, t.0, e) (ap Some (moved rows row (items_from kinds (n + 1) rs)))
+-- the row of the next record is the first of the items
+pub row_given : (o now : Option (List Fields)) (kinds : List Kind) (n : ℕ) (fields : Fields) (row : List Cell)
+    → Takes o fields now → Counts o n → record_item kinds n fields ≡ Ok row → GivesRow (option_map (items_from kinds n) o) (Some row) (option_map (items_from kinds (n + 1)) now)
+row_given None now kinds n fields row t c e = absurd c
+row_given (Some []) now kinds n fields row t c e = absurd t
+row_given (Some (r ∷ rs)) now kinds n fields row t c e = rw (t.1, t.0, e) refl
+
+pub no_row_given : (o now : Option (List Item)) → GivesRow o None now → o ≡ Some []
+no_row_given None now g = absurd g
+no_row_given (Some items) now g = ap Some g
+
+-- it goes from the items to the rows
+pub row_moved : (o now : Option (List Item)) (rows : List (List Cell)) (row : List Cell) → GivesRow o (Some row) now
+    → option_map (rows_then (rows ++ row ∷ [])) now ≡ option_map (rows_then rows) o
+row_moved None now rows row g = absurd g
+row_moved (Some items) None rows row g = absurd g
+row_moved (Some items) (Some left) rows row g = rw g (ap Some (moved rows row left))
 
 pub items_refused : (o now : Option (List Fields)) (kinds : List Kind) (n : ℕ) (fields : Fields) (e : _)
     → Takes o fields now → Counts o n → record_item kinds n fields ≡ Err e → option_map (items_from kinds n) o ≡ Some (Err e ∷ [])
@@ -99,7 +108,9 @@ never_read A (refused.Fields n) wanted h e = cc
 never_read A (refused.NotUtf8 n) wanted h e = cc
 never_read A (refused.Value n c) wanted h e = cc
 
-pub ruleset item_steps = (gives_bad, number_fits, counts_after, items_none, items_after, items_refused)
+pub ruleset item_steps = (gives_bad, number_fits, counts_after, items_none, row_given, items_refused)
+
+pub ruleset row_steps = (no_row_given, row_moved)
 
 -- the rows so far and the items after them are as many as there were
 pub falls_after : (rows : List (List Cell)) (now start : Option (List Item)) (recs : Option (List Fields)) (kinds : List Kind) (n : ℕ)

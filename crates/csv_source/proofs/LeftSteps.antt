@@ -1,10 +1,10 @@
 -- How many items a scan has left.
-use Rattle.std.proofs.Common.{◌≡◌, ℕ, suc, ◌+◌, ◌^◌, ◌≤◌, List, [], ◌∷◌, length, Option, Some, None, option_map, true, Ok, Err, arith, refl}
+use Rattle.std.proofs.Common.{◌≡◌, ℕ, suc, ◌+◌, ◌^◌, ◌≤◌, List, [], ◌∷◌, length, Option, Some, None, option_map, true, Ok, Err, arith, refl, ap, ◌<◌}
 use Rattle.dfx_value.specs.declared.kind.Kind.{Kind}
 use Rattle.csv_source.specs.CsvItems.{Item, items_from, and_then, record_item}
 use Rattle.csv_source.specs.Records.{Fields, records_left}
-use Rattle.csv_source.specs.Scans.{Counts}
 use Rattle.csv_source.specs.ScanView.{left_count}
+use Rattle.csv_source.specs.Scans.{Counts, GivesRow}
 use Rattle.csv_source.specs.Progress.{left_of, is_begun, IsSound}
 use Rattle.csv_source.specs.declared.progress.Progress.{Progress}
 use Rattle.csv_source.specs.declared.progress.Progress.TheVariants as progress
@@ -29,3 +29,18 @@ left_few remaining kinds progress.Unread begun sound = cc
 left_few remaining kinds progress.Refused begun sound = cc
 
 pub ruleset left_steps = (left_few)
+
+-- at the end nothing is left
+pub row_at_end : (o : Option (List Item)) (now : Option (List Item)) → GivesRow o None now → GivesRow o None (Some [])
+row_at_end None now g = absurd g
+row_at_end (Some items) now g = g
+
+pub ruleset step_steps = (row_at_end)
+
+-- a row that was given is one item less
+pub falls_by_row : (o now : Option (List Item)) (row : _) → GivesRow o (Some row) now → left_count now < left_count o
+falls_by_row None now row g = absurd g
+falls_by_row (Some items) None row g = absurd g
+falls_by_row (Some items) (Some left) row g = omega (arith, ap length g)
+
+pub ruleset scan_steps = (falls_by_row)

@@ -31,3 +31,10 @@ pub record IsRefused (count : ℕ) (items : List Item) (e : CsvRefused) : Type 0
   pub rows : List (List Cell)
   pub few : length rows < count
   pub is : items ≡ map Ok rows ++ Err e ∷ []
+
+-- the row is the first of these items, and the others are left; without a row there is no item
+abbrev pub GivesRow : Option (List Item) → Option (List Cell) → Option (List Item) → Type 0
+GivesRow None row left = ⊥
+GivesRow (Some items) (Some row) None = ⊥
+GivesRow (Some items) (Some row) (Some left) = items ≡ Ok row ∷ left
+GivesRow (Some items) None left = items ≡ []

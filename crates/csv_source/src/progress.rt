@@ -1,22 +1,22 @@
 //! How far a scan has come, and its next steps.
 
-ghost use Rattle.std.specs.Prelude.{◌≡◌, ◌≢◌, ◌∷◌, [], ◌^◌, ◌+◌, ◌<◌, ◌≤◌, ℕ, List, true, false, length, Ok, Err, Some, None, IfOk, IfErr};
+ghost use Rattle.std.specs.Prelude.{◌≡◌, ◌≢◌, ◌∷◌, [], ◌^◌, ◌+◌, ◌<◌, ◌≤◌, ℕ, List, true, false, length, Ok, Err, Some, None, IfOk, IfErr, IfSome};
 ghost use Rattle.std.specs.Io.Cursor.{cursor_remaining};
 ghost use Rattle.dfx_outside.specs.Causes.{Rose};
-ghost use Rattle.dfx_value.specs.Kinds.{are_kinds};
+ghost use Rattle.dfx_value.specs.Kinds.{are_kinds, are_of};
 ghost use Rattle.csv_source.specs.CsvItems.{Item, csv_items, is_bad};
 ghost use Rattle.csv_source.specs.Progress.{left_of, is_begun, IsSound};
 ghost use Rattle.csv_source.specs.ScanView.{left_count};
-ghost use Rattle.csv_source.specs.Scans.{GivesRows, IsRefused};
+ghost use Rattle.csv_source.specs.Scans.{GivesRow, GivesRows, IsRefused};
 ghost use Rattle.csv_source.specs.declared.refused.CsvRefused.{CsvRefused as Refusal};
 ghost use Rattle.csv_source.specs.declared.refused.CsvRefused.TheVariants as refused;
 
-use crate::reading::{Given, Reading, read_rows};
+use crate::reading::{Given, Reading, read_row, read_rows};
 use crate::records::next_record;
 use crate::refused::CsvRefused;
 use csv::{ByteRecord, ReaderBuilder};
 use dfx_outside::{OutsideRefused, Source, read_all};
-use dfx_value::{Batch, Builder, Kind};
+use dfx_value::{Batch, Builder, Kind, Row};
 use std::alloc::Global;
 use std::io::{Cursor, Read};
 
@@ -31,6 +31,13 @@ pub enum Progress<R: Drop> {
     Ended,
     /// A call was refused.
     Refused,
+}
+
+/// A row, or none where there are no more, and how far the scan then has come.
+#[derive(Drop)]
+pub struct Stepped<R: Drop> {
+    pub row: Option<Row>,
+    pub progress: Progress<R>,
 }
 
 /// A batch, and how far the scan then has come.
@@ -93,6 +100,44 @@ pub fn begin<S: Source>(
         Ok(bytes) => open(alloc, kinds, Cursor::new(bytes)),
         Err(OutsideRefused::Failed) => Err(CsvRefused::Read),
         Err(OutsideRefused::NoMemory) => Err(CsvRefused::NoMemory),
+    }
+}
+
+/// The next row of a scan that has begun.
+#[tactic(auto, using(crate::proofs::LeftSteps::step_steps))]
+pub fn step<R: Read + Drop>(
+    alloc: Global,
+    kinds: &[Kind],
+    progress: Progress<R>,
+) -> Result<Stepped<R>, CsvRefused>
+    requires kinds { are_kinds kinds.now ≡ true }
+    requires few { length kinds.now < 2 ^ 32 }
+    requires begun { is_begun progress ≡ true }
+    requires sound { IsSound R.remaining progress }
+
+    ensures fits { IfOk result (λ next. IfSome next.row (λ row. are_of kinds.now row ≡ true)) }
+    ensures begun { IfOk result (λ next. is_begun next.progress ≡ true) }
+    ensures sound { IfOk result (λ next. IsSound R.remaining next.progress) }
+    ensures gives { IfOk result (λ next. GivesRow (left_of R.remaining None kinds.now progress) next.row (left_of R.remaining None kinds.now next.progress)) }
+    ensures refused { (e : Refusal) → result ≡ Err e → is_bad e ≡ true → left_of R.remaining None kinds.now progress ≡ Some (Err e ∷ []) }
+    ensures read { result ≢ Err refused.Read }
+{
+    match progress {
+        Progress::Reading(mut reading) => match read_row(alloc, kinds, &mut reading)? {
+            Some(row) => Ok(Stepped {
+                row: Some(row),
+                progress: Progress::Reading(reading),
+            }),
+            None => Ok(Stepped {
+                row: None,
+                progress: Progress::Ended,
+            }),
+        },
+        Progress::Ended => Ok(Stepped {
+            row: None,
+            progress: Progress::Ended,
+        }),
+        Progress::Unread | Progress::Refused => unreachable!(),
     }
 }
 

@@ -1,11 +1,11 @@
 //! The rows of the records that a reader has left.
 
-ghost use Rattle.std.specs.Prelude.{◌≡◌, ◌≢◌, ◌+◌, ◌^◌, ◌<◌, ◌≤◌, ◌++◌, ◌∷◌, [], ℕ, List, true, false, length, Ok, Err, Some, option_map, IfOk, OnOk, if◌then◌else◌};
-ghost use Rattle.dfx_value.specs.Kinds.{are_kinds};
+ghost use Rattle.std.specs.Prelude.{◌≡◌, ◌≢◌, ◌+◌, ◌^◌, ◌<◌, ◌≤◌, ◌++◌, ◌∷◌, [], ℕ, List, true, false, length, Ok, Err, Some, option_map, IfOk, IfSome, OnOk, if◌then◌else◌};
+ghost use Rattle.dfx_value.specs.Kinds.{are_kinds, are_of};
 ghost use Rattle.csv_source.specs.CsvItems.{Item, is_bad};
 ghost use Rattle.csv_source.specs.Records.{IsSet, records_left};
 ghost use Rattle.csv_source.specs.ScanView.{left_count};
-ghost use Rattle.csv_source.specs.Scans.{Counts, items_left, rows_then, GivesRows, IsRefused};
+ghost use Rattle.csv_source.specs.Scans.{Counts, items_left, rows_then, GivesRow, GivesRows, IsRefused};
 ghost use Rattle.csv_source.specs.declared.refused.CsvRefused.{CsvRefused as Refusal};
 ghost use Rattle.csv_source.specs.declared.refused.CsvRefused.TheVariants as refused;
 
@@ -13,7 +13,7 @@ use crate::records::next_record;
 use crate::refused::CsvRefused;
 use crate::rows::row_of;
 use csv::{ByteRecord, Reader};
-use dfx_value::{Batch, Builder, Kind};
+use dfx_value::{Batch, Builder, Kind, Row};
 use std::alloc::Global;
 use std::io::Read;
 
@@ -33,8 +33,35 @@ pub struct Given {
     pub ended: bool,
 }
 
-/// Puts the row of the next record at the end of the builder's; false where there is no record left.
+/// The row of the next record, if there is one.
 #[tactic(auto, using(crate::proofs::ItemSteps::item_steps))]
+pub fn read_row<R: Read + Drop>(
+    alloc: Global,
+    kinds: &[Kind],
+    reading: &mut Reading<R>,
+) -> Result<Option<Row>, CsvRefused>
+    requires kinds { are_kinds kinds.now ≡ true }
+    requires few { length kinds.now < 2 ^ 32 }
+    requires set { IsSet reading.old.reader }
+    requires counts { Counts (records_left R.remaining reading.old.reader) reading.old.number }
+
+    ensures fits { IfOk result (λ o. IfSome o (λ row. are_of kinds.now row ≡ true)) }
+    ensures set { IfOk result (λ o. IfSome o (λ row. IsSet reading.new.reader)) }
+    ensures counts { IfOk result (λ o. IfSome o (λ row. Counts (records_left R.remaining reading.new.reader) reading.new.number)) }
+    ensures gives { IfOk result (λ row. GivesRow (items_left R.remaining kinds.now reading.old.number reading.old.reader) row (items_left R.remaining kinds.now reading.new.number reading.new.reader)) }
+    ensures refused { (e : Refusal) → result ≡ Err e → is_bad e ≡ true → items_left R.remaining kinds.now reading.old.number reading.old.reader ≡ Some (Err e ∷ []) }
+    ensures read { result ≢ Err refused.Read }
+{
+    if !next_record(&mut reading.reader, &mut reading.record)? {
+        return Ok(None);
+    }
+    let row = row_of(alloc, kinds, &reading.record, reading.number)?;
+    reading.number += 1;
+    Ok(Some(row))
+}
+
+/// Puts the row of the next record at the end of the builder's; false where there is no record left.
+#[tactic(auto, using(crate::proofs::ItemSteps::row_steps))]
 fn push_next<R: Read + Drop>(
     alloc: Global,
     kinds: &[Kind],
@@ -60,11 +87,9 @@ fn push_next<R: Read + Drop>(
     ensures refused { (e : Refusal) → result ≡ Err e → is_bad e ≡ true → items_left R.remaining kinds.now reading.old.number reading.old.reader ≡ Some (Err e ∷ []) }
     ensures read { result ≢ Err refused.Read }
 {
-    if !next_record(&mut reading.reader, &mut reading.record)? {
+    let Some(row) = read_row(alloc, kinds, reading)? else {
         return Ok(false);
-    }
-    let row = row_of(alloc, kinds, &reading.record, reading.number)?;
-    reading.number += 1;
+    };
     let Ok(()) = builder.push(row) else {
         return Err(CsvRefused::NoMemory);
     };

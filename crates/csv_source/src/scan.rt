@@ -1,18 +1,18 @@
 //! A CSV file as a scan: all its bytes are read at the first call, and its rows are given a batch at a time.
 
-ghost use Rattle.std.specs.Prelude.{◌≡◌, ◌^◌, ◌+◌, ◌<◌, ◌≤◌, ℕ, List, true, false, length, Ok, Err, Some, IfOk, IfErr, OnOk, OnErr, option_map};
+ghost use Rattle.std.specs.Prelude.{◌≡◌, ◌^◌, ◌+◌, ◌<◌, ◌≤◌, ◌∷◌, [], ℕ, List, true, false, length, Ok, Err, Some, IfOk, IfErr, IfSome, OnOk, OnErr, option_map};
 ghost use Rattle.dfx_outside.specs.Causes.{Rose};
-ghost use Rattle.dfx_value.specs.Kinds.{are_kinds};
+ghost use Rattle.dfx_value.specs.Kinds.{are_kinds, are_of};
 ghost use Rattle.csv_source.specs.CsvItems.{Item, csv_items, is_bad};
 ghost use Rattle.csv_source.specs.ScanView.{left_count};
-ghost use Rattle.csv_source.specs.Scans.{GivesRows, IsRefused};
+ghost use Rattle.csv_source.specs.Scans.{GivesRow, GivesRows, IsRefused};
 ghost use Rattle.csv_source.specs.declared.refused.CsvRefused.{CsvRefused as Refusal};
 ghost use Rattle.csv_source.specs.declared.refused.CsvRefused.TheVariants as refused;
 
-use crate::progress::{Advanced, Progress, advance, begin};
+use crate::progress::{Advanced, Progress, Stepped, advance, begin, step};
 use crate::refused::CsvRefused;
 use dfx_outside::Source;
-use dfx_value::{Batch, Kind};
+use dfx_value::{Batch, Kind, Row};
 use std::alloc::Global;
 use std::io::Cursor;
 use std::marker::Model;
@@ -92,6 +92,33 @@ impl<S: Source> CsvScan<S> {
         let Advanced { batch, progress } = advance(self.alloc, &self.kinds, progress, rows)?;
         self.progress = progress;
         Ok(batch)
+    }
+
+    /// The next row of the file, or none where it has ended. The first call reads the whole file. After a refusal only
+    /// `into_source` may be called.
+    #[tactic(auto, using(crate::proofs::LeftSteps::scan_steps))]
+    pub fn next_row(&mut self) -> Result<Option<Row>, CsvRefused>
+        requires going { self.old.refused ≡ false }
+
+        ensures fits { IfOk result (λ o. IfSome o (λ row. are_of self.old.kinds row ≡ true)) }
+        ensures gives { (items : List Item) → self.old.left ≡ Some items → IfOk result (λ row. GivesRow (Some items) row self.new.left) }
+        ensures falls { IfOk result (λ o. IfSome o (λ row. left_count self.new.left < left_count self.old.left)) }
+        ensures going { OnOk result (self.new.refused ≡ false) }
+
+        // The file's refusal comes exactly where it is the next item; the source's only where its count rose.
+        ensures refused { (items : List Item) (e : Refusal) → self.old.left ≡ Some items → result ≡ Err e → is_bad e ≡ true → items ≡ Err e ∷ [] }
+        ensures read { result ≡ Err refused.Read → Rose (S.faults self.old.source) (S.faults self.new.source) }
+
+        ensures same { (S.told self.new.source ≡ S.told self.old.source) × (self.new.kinds ≡ self.old.kinds) }
+        ensures later { S.faults self.old.source ≤ S.faults self.new.source }
+    {
+        let progress = match mem::replace(&mut self.progress, Progress::Refused) {
+            Progress::Unread => begin(self.alloc, &mut self.source, &self.kinds)?,
+            begun => begun,
+        };
+        let Stepped { row, progress } = step(self.alloc, &self.kinds, progress)?;
+        self.progress = progress;
+        Ok(row)
     }
 
     /// The source.
