@@ -2,8 +2,10 @@
 #![tactic(auto)]
 
 mod lines;
+mod row_lines;
 mod text;
 
+pub use row_lines::RowLines;
 pub use text::{header_text, rows_text};
 
 #[cfg(test)]

@@ -38,14 +38,14 @@ pub fn rows_text(alloc: Global, batch: &Batch, columns: &[u32]) -> Result<Bytes,
 }
 
 /// A writer with the default settings, into memory.
-fn fresh(alloc: Global) -> Writer<Vec<u8>>
+pub(crate) fn fresh(alloc: Global) -> Writer<Vec<u8>>
     ensures { Stands (λ v. Some v.items) result [] }
 {
     WriterBuilder::new().from_writer(Vec::new(alloc))
 }
 
 /// The bytes that a writer wrote.
-fn finished(writer: Writer<Vec<u8>>) -> Result<Bytes, NoMemory>
+pub(crate) fn finished(writer: Writer<Vec<u8>>) -> Result<Bytes, NoMemory>
     ensures { (text : List ℕ) → Stands (λ v. Some v.items) writer text → IfOk result (λ bytes. bytes ≡ text) }
 {
     match writer.into_inner() {
