@@ -1,5 +1,5 @@
 -- Chains, node by node.
-use Rattle.std.proofs.Common.{◌≡◌, refl, ℕ, List, [], ◌∷◌, ◌++◌, Option, Some, None, ap, sym, ◌∙◌}
+use Rattle.std.proofs.Common.{◌≡◌, refl, ℕ, List, [], ◌∷◌, ◌++◌, Option, Some, None, ap, sym, ◌∙◌, subst, map}
 use Rattle.dfx_value.specs.declared.kind.Kind.{Kind}
 use Rattle.dfx_value.specs.declared.op.AggCall.{AggCall}
 use Rattle.dfx_value.specs.declared.op.JoinKind.{JoinKind}
@@ -7,7 +7,7 @@ use Rattle.scalar_exprs.specs.declared.expr.Expr.{Expr}
 use Rattle.logical_plan.specs.declared.plan.Logical.{Logical}
 use Rattle.logical_plan.specs.declared.plan.Logical.TheOpen.{Logical-F}
 use Rattle.logical_plan.specs.declared.plan.Logical.TheVariants.{Scan, Filter, Project, Join, Aggregate, Distinct, UnionAll, rolls-Scan, rolls-Filter, rolls-Project, rolls-Join, rolls-Aggregate, rolls-Distinct, rolls-UnionAll}
-use Rattle.logical_plan.specs.declared.plan.Logical.TheFolds.{fold-roll-Logical, map-Logical}
+use Rattle.logical_plan.specs.declared.plan.Logical.TheFolds.{fold-roll-Logical, map-Logical, ind-Logical}
 use Rattle.logical_plan.specs.declared.plan.Logical.TheViews.{roll-Logical}
 use Rattle.logical_plan.specs.Items.{Item, filter_items, project_items}
 use Rattle.scan_run.specs.Chains.{Scanned, scanned, node_scanned, over, node_over}
@@ -69,3 +69,29 @@ pub over-UnionAll : (inputs : List Logical) (xs : List Item) → over (UnionAll 
 over-UnionAll inputs xs = over_at xs (UnionAll inputs) (Logical-F.UnionAll inputs) (rolls-UnionAll inputs)
 
 pub ruleset overs = (over-Scan, over-Filter, over-Project, over-Join, over-Aggregate, over-Distinct, over-UnionAll)
+
+-- ---- what holds of a body, node by node; of nodes that are in no chain without their inputs
+
+module _ (P : Logical → Type 0)
+  (scan : (table : ℕ) (ks : List Kind) → P (Scan table ks))
+  (filter : (input : Logical) (test : Expr) → P input → P (Filter input test))
+  (project : (input : Logical) (items : List Expr) → P input → P (Project input items))
+  (join : (kind : JoinKind) (left right : Logical) (keys : List (ℕ × ℕ)) (rest : Option Expr) → P (Join kind left right keys rest))
+  (aggregate : (input : Logical) (keys : List ℕ) (calls : List AggCall) → P (Aggregate input keys calls))
+  (dedup : (input : Logical) → P (Distinct input))
+  (union : (inputs : List Logical) → P (UnionAll inputs)) where
+
+  abbrev Known : Type 0
+  Known = (q : Logical) × P q
+
+  step : (y : Logical-F Known) → P (roll-Logical (map-Logical Known Logical (λ k. k.0) y))
+  step (Logical-F.Scan table ks) = subst P (sym (rolls-Scan table ks)) (scan table ks)
+  step (Logical-F.Filter input test) = subst P (sym (rolls-Filter input.0 test)) (filter input.0 test input.1)
+  step (Logical-F.Project input items) = subst P (sym (rolls-Project input.0 items)) (project input.0 items input.1)
+  step (Logical-F.Join kind left right keys rest) = subst P (sym (rolls-Join kind left.0 right.0 keys rest)) (join kind left.0 right.0 keys rest)
+  step (Logical-F.Aggregate input keys calls) = subst P (sym (rolls-Aggregate input.0 keys calls)) (aggregate input.0 keys calls)
+  step (Logical-F.Distinct input) = subst P (sym (rolls-Distinct input.0)) (dedup input.0)
+  step (Logical-F.UnionAll inputs) = subst P (sym (rolls-UnionAll (map (λ (k : Known). k.0) inputs))) (union (map (λ (k : Known). k.0) inputs))
+
+  pub by_node : (q : Logical) → P q
+  by_node = ind-Logical P (λ x y is. subst (λ z. P (roll-Logical z)) is (step y))

@@ -1,2 +1,4 @@
 pub mod ChainSteps
 pub mod PassSteps
+pub mod OverLaws
+pub mod BatchSteps

@@ -6,6 +6,7 @@ ghost use Rattle.csv_source.specs.ScanView.{left_count};
 ghost use Rattle.dfx_outside.specs.Causes.{Rose};
 ghost use Rattle.dfx_value.specs.declared.fault.ItemFault.{ItemFault};
 ghost use Rattle.result_text.specs.RowLines.{Holds};
+ghost use Rattle.scan_run.specs.Chains.{is_chain};
 ghost use Rattle.scan_run.specs.Written.{batch_rows, WroteAll, WroteBefore, WrotePart};
 ghost use Rattle.scan_run.specs.Words.{Taken, TakenAll, Meets, Writing, fault_named, items_of_file, IsOfRows};
 ghost use Rattle.scan_run.specs.declared.refused.RunRefused.{RunRefused as Refusal};
@@ -30,6 +31,7 @@ fn push_next<S: Source>(
     scan: &mut CsvScan<S>,
     lines: &mut RowLines,
 ) -> Result<bool, RunRefused>
+    requires chain { is_chain body.now ≡ true }
     requires going { scan.old.refused ≡ false }
 
     ensures more { (items : List csv.Item) (text : List ℕ) (count : ℕ) → Taken body.now items text count scan.old.left lines.old
@@ -66,6 +68,7 @@ fn push_batch<S: Source>(
     scan: &mut CsvScan<S>,
     lines: &mut RowLines,
 ) -> Result<bool, RunRefused>
+    requires chain { is_chain body.now ≡ true }
     requires going { scan.old.refused ≡ false }
 
     ensures more { (items : List csv.Item) (text : List ℕ) → Taken body.now items text 0 scan.old.left lines.old
@@ -98,6 +101,7 @@ fn write_batch<S: Source, K: Sink>(
     scan: &mut CsvScan<S>,
     sink: &mut K,
 ) -> Result<bool, RunRefused>
+    requires chain { is_chain body.now ≡ true }
     requires going { scan.old.refused ≡ false }
 
     ensures more { (items : List csv.Item) (before : List ℕ) → Writing body.now items before scan.old.left (K.told sink.old)
@@ -135,6 +139,7 @@ pub(crate) fn write_rows<S: Source, K: Sink>(
     scan: &mut CsvScan<S>,
     sink: &mut K,
 ) -> Result<(), RunRefused>
+    requires chain { is_chain body.now ≡ true }
     requires going { scan.old.refused ≡ false }
 
     ensures all { (items : List csv.Item) (before : List ℕ) (table : ℕ) → scan.old.left ≡ Some items → K.told sink.old ≡ Some before

@@ -14,7 +14,7 @@ returns-in_err-push_value c text h =
     let q = err_from_is_err_and c.from_residual.result c.from_residual.ensures.1 in
     let next = at_place c.args.exprs.now c.loop-expr.expr-index c.expr-item.result (omega arith) (search rules) in
     let p = subst (λ rest. Projecting c.args.exprs.now c.args.row.now rest text c.loop-expr.lines) next (c.loop-expr.invariant text h) in
-    adds_refused _ _ c.from_residual.result c.in_err-push_value.field-0.0 q.0 c.args.exprs.now c.args.row.now _ _ text c.loop-expr.lines c.push_value.new.lines _
+    adds_refused (Unit {0}) (Unit {0}) c.from_residual.result c.in_err-push_value.field-0.0 q.0 c.args.exprs.now c.args.row.now _ _ text c.loop-expr.lines c.push_value.new.lines _
     q.1 q.2 p (c.in_err-push_value.ensures text p.holds)
 
 pub loop-expr-preserved : goal.loop-expr-preserved
