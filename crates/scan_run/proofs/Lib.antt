@@ -2,3 +2,4 @@ pub mod ChainSteps
 pub mod PassSteps
 pub mod OverLaws
 pub mod BatchSteps
+pub mod OpenSteps

@@ -1,5 +1,5 @@
 -- Words: what the steps of a run over a chain tell one another.
-use Rattle.std.specs.Prelude.{ℕ, ◌≡◌, ◌<◌, ◌≤◌, ◌%◌, ◌++◌, ◌∷◌, [], List, length, map, Option, Some, None, Result, Ok, Err, ⊤}
+use Rattle.std.specs.Prelude.{ℕ, ◌≡◌, ◌<◌, ◌≤◌, ◌%◌, ◌++◌, ◌∷◌, [], List, length, map, take, drop, Option, Some, None, Result, Ok, Err, ⊤}
 use Rattle.csv.specs.Records.{fields_of}
 use Rattle.csv_source.specs.CsvItems as csv
 use Rattle.csv_source.specs.declared.refused.CsvRefused.{CsvRefused}
@@ -25,7 +25,7 @@ use Rattle.scalar_exprs.specs.declared.refused.EvalRefused.{EvalRefused}
 use Rattle.scalar_exprs.specs.declared.refused.EvalRefused.TheVariants as eval
 use Rattle.dfx_value.specs.declared.kind.Kind.{Kind}
 use Rattle.scan_run.specs.Chains.{Scanned, over}
-use Rattle.scan_run.specs.Sources.{item_of, fault_of, files_from, missing}
+use Rattle.scan_run.specs.Sources.{item_of, fault_of, files_from, missing, missing_from}
 use Rattle.scan_run.specs.Written.{batch_rows, lines, WroteBefore}
 use Rattle.scan_run.specs.declared.refused.RunRefused.{RunRefused}
 use Rattle.scan_run.specs.declared.refused.RunRefused.TheVariants as refused
@@ -172,6 +172,13 @@ Tell told contents = told ≡ map Some contents
 abbrev pub Opens : {S : Type 0} → (S → Option (List ℕ)) → List S → List S → Option (List ℕ) → Type 0
 Opens told before now None = ⊥
 Opens told before now (Some bytes) = map told now ≡ map told before ++ Some bytes ∷ []
+
+-- the files at so many first paths were opened, and tell their contents
+pub record Opening (all : Contents) (paths : List (List ℕ)) (count : ℕ) (told : List (Option (List ℕ))) : Type 0 where
+  pub contents : List (List ℕ)
+  pub tell : Tell told contents
+  pub found : map (content all) (take count paths) ≡ map Some contents
+  pub next : missing_from all count (drop count paths) ≡ missing all paths
 
 -- each path has a content, and the opened files tell these
 pub record AreOpened (all : Contents) (paths : List (List ℕ)) (told : List (Option (List ℕ))) : Type 0 where
