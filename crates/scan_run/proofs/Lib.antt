@@ -3,3 +3,4 @@ pub mod PassSteps
 pub mod OverLaws
 pub mod BatchSteps
 pub mod OpenSteps
+pub mod FileSteps

@@ -26,7 +26,7 @@ use Rattle.scalar_exprs.specs.declared.refused.EvalRefused.TheVariants as eval
 use Rattle.dfx_value.specs.declared.kind.Kind.{Kind}
 use Rattle.scan_run.specs.Chains.{Scanned, over}
 use Rattle.scan_run.specs.Sources.{item_of, fault_of, files_from, missing, missing_from}
-use Rattle.scan_run.specs.Written.{batch_rows, lines, WroteBefore}
+use Rattle.scan_run.specs.Written.{batch_rows, lines, WroteAll, WroteBefore}
 use Rattle.scan_run.specs.declared.refused.RunRefused.{RunRefused}
 use Rattle.scan_run.specs.declared.refused.RunRefused.TheVariants as refused
 
@@ -192,6 +192,15 @@ pub record AreOpened (all : Contents) (paths : List (List ℕ)) (told : List (Op
 -- the items of files with these contents
 abbrev pub items_of_all : Scanned → List (List ℕ) → List (List Item)
 items_of_all s contents = files_from s.table s.kinds 0 (map Some contents)
+
+-- so many files were written whole, without a fault, and those that are left tell these contents
+pub record WritingFiles (body : Logical) (s : Scanned) (contents : List (List ℕ)) (before : List ℕ) (count : ℕ) (told : List (Option (List ℕ))) (now : Option (List ℕ)) : Type 0 where
+  pub earlier : List (List Item)
+  pub rest : List (List ℕ)
+  pub tell : Tell told rest
+  pub are : items_of_all s contents ≡ earlier ++ files_from s.table s.kinds count (map Some rest)
+  pub number : length earlier ≡ count
+  pub wrote : WroteAll body (concat earlier) before now
 
 -- among the items of these files a fault is met in one that the refusal names, if it names one
 pub record StopsIn (body : Logical) (files : List (List Item)) (before : List ℕ) (e : RunRefused) (fault : ItemFault) (now : Option (List ℕ)) : Type 0 where

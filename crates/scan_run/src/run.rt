@@ -46,6 +46,7 @@ fn scan_of<S: Source>(alloc: Global, body: &Logical, source: S) -> Result<CsvSca
 }
 
 /// Writes the lines of what a chain gives for an opened file, and closes it.
+#[tactic(auto, using(crate::proofs::FileSteps::handed_on))]
 fn write_file<F: Files, K: Sink>(
     alloc: Global,
     body: &Logical,
