@@ -4,3 +4,4 @@ pub mod OverLaws
 pub mod BatchSteps
 pub mod OpenSteps
 pub mod FileSteps
+pub mod EndSteps

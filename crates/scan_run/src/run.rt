@@ -119,6 +119,7 @@ fn write_files<F: Files, K: Sink>(
 }
 
 /// Writes the header, and then the lines of what a query's chain gives for opened files.
+#[tactic(auto, using(crate::proofs::EndSteps::header_steps))]
 fn write_answer<F: Files, K: Sink>(
     alloc: Global,
     query: &Query,
