@@ -22,8 +22,8 @@ returns-in_err-write_file-clause-met g c s contents before e fault scanned tell 
     let items : c.loop-file.opened.items ≡ c.in-Some.source ∷ c.pop_front.new.self.items = c.in-Some.ensures.items in
     let w = subst (λ xs. WritingFiles c.args.body.now s contents before c.loop-file.file (map g.F.One.Source.told xs) (g.K.Sink.told c.loop-file.sink)) items
         (c.loop-file.invariant.writing s contents before scanned tell taken) in
-    let n = next_file c.args.body.now s contents before c.loop-file.file _ _ _ w in
-    files_stop c.args.body.now s contents before c.loop-file.file _ _ _ _ e fault n (subst (IsOfRows c.loop-file.file) same c.in_err-write_file.ensures.kind)
+    let n = next_file c.args.body.now s contents before c.loop-file.file (g.F.One.Source.told c.in-Some.source) (map g.F.One.Source.told c.pop_front.new.self.items) (g.K.Sink.told c.loop-file.sink) w in
+    files_stop c.args.body.now s contents before c.loop-file.file (g.F.One.Source.told c.in-Some.source) (map g.F.One.Source.told c.pop_front.new.self.items) (g.K.Sink.told c.loop-file.sink) (g.K.Sink.told c.write_file.new.sink) e fault n (subst (IsOfRows c.loop-file.file) same c.in_err-write_file.ensures.kind)
     (c.in_err-write_file.ensures.met s n.bytes _ e fault scanned n.tells n.wrote.written (ap Err same) named)
 
 pub returns-in_err-write_file-clause-part : goal.returns-in_err-write_file-clause-part
@@ -32,8 +32,8 @@ returns-in_err-write_file-clause-part g c s contents before scanned tell taken =
     let items : c.loop-file.opened.items ≡ c.in-Some.source ∷ c.pop_front.new.self.items = c.in-Some.ensures.items in
     let w = subst (λ xs. WritingFiles c.args.body.now s contents before c.loop-file.file (map g.F.One.Source.told xs) (g.K.Sink.told c.loop-file.sink)) items
         (c.loop-file.invariant.writing s contents before scanned tell taken) in
-    let n = next_file c.args.body.now s contents before c.loop-file.file _ _ _ w in
-    rw p.1 (files_part c.args.body.now s contents before c.loop-file.file _ _ _ _ n (c.in_err-write_file.ensures.part s n.bytes _ scanned n.tells n.wrote.written))
+    let n = next_file c.args.body.now s contents before c.loop-file.file (g.F.One.Source.told c.in-Some.source) (map g.F.One.Source.told c.pop_front.new.self.items) (g.K.Sink.told c.loop-file.sink) w in
+    rw p.1 (files_part c.args.body.now s contents before c.loop-file.file (g.F.One.Source.told c.in-Some.source) (map g.F.One.Source.told c.pop_front.new.self.items) (g.K.Sink.told c.loop-file.sink) (g.K.Sink.told c.write_file.new.sink) n (c.in_err-write_file.ensures.part s n.bytes _ scanned n.tells n.wrote.written))
 
 pub loop-file-preserved : goal.loop-file-preserved
 loop-file-preserved g c = record {
@@ -46,8 +46,8 @@ loop-file-preserved g c = record {
       let items : c.loop-file.opened.items ≡ c.in-Some.source ∷ c.pop_front.new.self.items = c.in-Some.ensures.items in
       let w = subst (λ xs. WritingFiles c.args.body.now s contents before c.loop-file.file (map g.F.One.Source.told xs) (g.K.Sink.told c.loop-file.sink)) items
           (c.loop-file.invariant.writing s contents before scanned tell taken) in
-      let n = next_file c.args.body.now s contents before c.loop-file.file _ _ _ w in
-      files_more c.args.body.now s contents before c.loop-file.file _ _ _ _ n (c.in_ok-write_file.ensures.all s n.bytes _ scanned n.tells n.wrote.written);
+      let n = next_file c.args.body.now s contents before c.loop-file.file (g.F.One.Source.told c.in-Some.source) (map g.F.One.Source.told c.pop_front.new.self.items) (g.K.Sink.told c.loop-file.sink) w in
+      files_more c.args.body.now s contents before c.loop-file.file (g.F.One.Source.told c.in-Some.source) (map g.F.One.Source.told c.pop_front.new.self.items) (g.K.Sink.told c.loop-file.sink) (g.K.Sink.told c.write_file.new.sink) n (c.in_ok-write_file.ensures.all s n.bytes _ scanned n.tells n.wrote.written);
 }
 
 pub returns-clause-all : goal.returns-clause-all
