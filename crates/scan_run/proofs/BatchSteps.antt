@@ -1,5 +1,5 @@
 -- Rows and batches of one file, one more.
-use Rattle.std.proofs.Common.{◌≡◌, refl, ℕ, suc, ◌+◌, ◌<◌, ◌≤◌, ◌%◌, List, [], ◌∷◌, ◌++◌, length, map, take, Option, Some, None, Bool, true, false, Result, Ok, Err, ap, sym, ◌∙◌, subst, arith, append_assoc, length-append}
+use Rattle.std.proofs.Common.{◌≡◌, refl, ℕ, suc, ◌+◌, ◌<◌, List, [], ◌∷◌, ◌++◌, length, map, take, Option, Some, None, Bool, true, false, Result, Ok, Err, ap, sym, ◌∙◌, subst, arith, append_assoc, length-append}
 use Rattle.std.proofs.Math.Seq.{take-append-add, take-length}
 use Rattle.std.proofs.lemmas.List.{append-nil, map-append}
 use Rattle.dfx_outside.specs.Bytes.{EndsInFront}
@@ -10,9 +10,8 @@ use Rattle.csv_source.specs.CsvItems.{is_bad}
 use Rattle.csv_source.specs.Scans.{GivesRow}
 use Rattle.csv_source.specs.declared.refused.CsvRefused.{CsvRefused}
 use Rattle.csv_source.specs.declared.refused.CsvRefused.TheVariants as scan
-use Rattle.logical_plan.specs.Items.{Cells, Item, rows, faults, of_rows}
+use Rattle.logical_plan.specs.Items.{Cells, Item, faults, of_rows}
 use Rattle.logical_plan.specs.declared.plan.Logical.{Logical}
-use Rattle.result_text.specs.AnswerText.{row_lines}
 use Rattle.result_text.specs.RowLines.{Holds}
 use Rattle.result_text.specs.declared.row_lines.RowLines.{RowLines}
 use Rattle.scalar_exprs.specs.declared.refused.EvalRefused.{EvalRefused}
@@ -22,7 +21,6 @@ use Rattle.scan_run.specs.Sources.{item_of, fault_of}
 use Rattle.scan_run.specs.Written.{batch_rows, lines, WroteAll, WroteBefore, WrotePart}
 use Rattle.scan_run.specs.Words.{Adds, Taken, TakenAll, Meets, Writing, of_scan, of_eval, fault_named, items_of_file}
 use Rattle.scan_run.specs.declared.refused.RunRefused.{RunRefused}
-use Rattle.scan_run.specs.declared.refused.RunRefused.TheVariants as refused
 use Rattle.scan_run.proofs.OverLaws.{clean-append, lines-append, clean-nil, lines-nil, over-fault}
 
 -- ---- rows as items

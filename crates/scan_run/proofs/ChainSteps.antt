@@ -1,5 +1,5 @@
 -- Chains, node by node.
-use Rattle.std.proofs.Common.{◌≡◌, refl, ℕ, List, [], ◌∷◌, ◌++◌, Option, Some, None, ap, sym, ◌∙◌, subst, map}
+use Rattle.std.proofs.Common.{◌≡◌, ℕ, List, [], Option, Some, None, ap, sym, ◌∙◌, subst, map}
 use Rattle.dfx_value.specs.declared.kind.Kind.{Kind}
 use Rattle.dfx_value.specs.declared.op.AggCall.{AggCall}
 use Rattle.dfx_value.specs.declared.op.JoinKind.{JoinKind}
@@ -73,14 +73,13 @@ pub ruleset overs = (over-Scan, over-Filter, over-Project, over-Join, over-Aggre
 -- ---- what holds of a body, node by node; of nodes that are in no chain without their inputs
 
 module _ (P : Logical → Type 0)
-  (scan : (table : ℕ) (ks : List Kind) → P (Scan table ks))
-  (filter : (input : Logical) (test : Expr) → P input → P (Filter input test))
-  (project : (input : Logical) (items : List Expr) → P input → P (Project input items))
-  (join : (kind : JoinKind) (left right : Logical) (keys : List (ℕ × ℕ)) (rest : Option Expr) → P (Join kind left right keys rest))
-  (aggregate : (input : Logical) (keys : List ℕ) (calls : List AggCall) → P (Aggregate input keys calls))
-  (dedup : (input : Logical) → P (Distinct input))
-  (union : (inputs : List Logical) → P (UnionAll inputs)) where
-
+    (scan : (table : ℕ) (ks : List Kind) → P (Scan table ks))
+    (filter : (input : Logical) (test : Expr) → P input → P (Filter input test))
+    (project : (input : Logical) (items : List Expr) → P input → P (Project input items))
+    (join : (kind : JoinKind) (left right : Logical) (keys : List (ℕ × ℕ)) (rest : Option Expr) → P (Join kind left right keys rest))
+    (aggregate : (input : Logical) (keys : List ℕ) (calls : List AggCall) → P (Aggregate input keys calls))
+    (dedup : (input : Logical) → P (Distinct input))
+    (union : (inputs : List Logical) → P (UnionAll inputs)) where
   abbrev Known : Type 0
   Known = (q : Logical) × P q
 

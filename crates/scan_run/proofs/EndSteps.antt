@@ -1,30 +1,30 @@
 -- How a run ends.
-use Rattle.std.proofs.Common.{◌≡◌, refl, ℕ, zero, suc, ◌+◌, ◌<◌, ◌≤◌, List, [], ◌∷◌, ◌++◌, length, map, take, drop, Option, Some, None, Result, Ok, Err, inl, inr, ap, sym, ◌∙◌, subst, arith, append_assoc, slice_get, unwrap_or}
-use Rattle.std.specs.Prelude.{IsPermutation, IsSorted, Contains, OnOk, OnErr, IfErr}
+use Rattle.std.proofs.Common.{◌≡◌, refl, ℕ, ◌+◌, ◌≤◌, List, [], ◌∷◌, ◌++◌, length, map, take, Option, Some, None, Result, Ok, Err, inl, inr, ap, sym, ◌∙◌, subst, arith, append_assoc, unwrap_or}
+use Rattle.std.specs.Prelude.{IsSorted, Contains, OnOk, OnErr, IfErr}
 use Rattle.std.proofs.Math.Seq.{take-append-add}
 use Rattle.std.proofs.lemmas.List.{append-nil}
 use Rattle.std.proofs.lemmas.List.Sorted.{IsPermutation-refl}
 use Rattle.dfx_outside.specs.Bytes.{EndsInFront}
 use Rattle.dfx_outside.specs.Causes.{Rose}
-use Rattle.dfx_outside.specs.Contents.{Contents, content}
+use Rattle.dfx_outside.specs.Contents.{content}
 use Rattle.dfx_value.specs.Rows.{row_cmp}
 use Rattle.dfx_value.specs.declared.fault.ItemFault.{ItemFault}
 use Rattle.dfx_value.specs.declared.fault.ItemFault.TheVariants.{Evaluation}
 use Rattle.dfx_value.specs.declared.rows.SortKey.{SortKey}
 use Rattle.logical_plan.specs.Items.{Cells, Item, concat, rows, faults}
 use Rattle.logical_plan.specs.Body.{Tables, scan, body, all_faults}
-use Rattle.logical_plan.specs.Allowed.{Allows, Allowed}
+use Rattle.logical_plan.specs.Allowed.{Allows}
 use Rattle.logical_plan.specs.declared.plan.Logical.{Logical}
 use Rattle.logical_plan.specs.declared.query.Query.{Query}
-use Rattle.result_text.specs.AnswerText.{header_line, answer_text, row_lines}
-use Rattle.scan_run.specs.Chains.{Scanned, scanned, over}
+use Rattle.result_text.specs.AnswerText.{header_line}
+use Rattle.scan_run.specs.Chains.{scanned, over}
 use Rattle.scan_run.specs.Sources.{files_from, missing, fault_of}
-use Rattle.scan_run.specs.Written.{lines, WroteAll, WroteBefore, WrotePart, BeganOver}
+use Rattle.scan_run.specs.Written.{lines, WroteAll, WrotePart, BeganOver}
 use Rattle.scan_run.specs.Outcomes.{Asked, files_of, with_header, HasFiles, Answered, Stopped, Began, Ran, IsMet, IsOkOrMemory}
-use Rattle.scan_run.specs.Words.{Tell, AreOpened, StopsIn, IsOfRows, IsOfRun, IsOfOpening, fault_named, items_of_all}
+use Rattle.scan_run.specs.Words.{AreOpened, StopsIn, IsOfRun, IsOfOpening, fault_named, items_of_all}
 use Rattle.scan_run.specs.declared.refused.RunRefused.{RunRefused}
 use Rattle.scan_run.specs.declared.refused.RunRefused.TheVariants as refused
-use Rattle.scan_run.proofs.OverLaws.{clean-append, clean-nil, lines-append, lines-nil, over-append, faults-append, body_given, met_among}
+use Rattle.scan_run.proofs.OverLaws.{clean-append, clean-nil, lines-nil, over-append, faults-append, body_given, met_among}
 use Rattle.scan_run.proofs.FileSteps.{concat-append}
 
 -- ---- the header

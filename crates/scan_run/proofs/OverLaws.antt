@@ -1,13 +1,12 @@
 -- What a chain gives over several items, and its faults.
-use Rattle.std.proofs.Common.{◌≡◌, refl, ℕ, List, [], ◌∷◌, ◌++◌, Option, Some, None, Result, Ok, Err, ap, sym, ◌∙◌, append_assoc, map, subst}
-use Rattle.std.specs.List.{flat_map}
+use Rattle.std.proofs.Common.{◌≡◌, refl, ℕ, List, [], ◌∷◌, ◌++◌, Some, None, Ok, Err, ap, sym, ◌∙◌, append_assoc, subst}
 use Rattle.std.proofs.lemmas.Grind.{flat_map-append}
-use Rattle.std.proofs.lemmas.List.{append-nil, map-append}
+use Rattle.std.proofs.lemmas.List.{map-append}
 use Rattle.std.proofs.lemmas.List.Elements.{Contains-append_left}
 use Rattle.std.specs.List.{Contains}
 use Rattle.dfx_value.specs.declared.fault.ItemFault.{ItemFault}
 use Rattle.dfx_value.specs.declared.kind.Kind.{Kind}
-use Rattle.logical_plan.specs.Items.{Cells, Item, rows, faults, of_rows, filtered, filter_items, projected, project_items}
+use Rattle.logical_plan.specs.Items.{Cells, Item, rows, faults, filtered, filter_items, projected, project_items}
 use Rattle.logical_plan.specs.Body.{Tables, scan, body, all_faults}
 use Rattle.logical_plan.specs.declared.plan.Logical.{Logical}
 use Rattle.logical_plan.specs.declared.plan.Logical.TheVariants.{Scan, Filter, Project}

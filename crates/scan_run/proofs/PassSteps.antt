@@ -1,7 +1,6 @@
 -- What a chain gives for one row, node by node.
-use Rattle.std.proofs.Common.{◌≡◌, refl, ℕ, List, [], ◌∷◌, ◌++◌, map, Option, Some, None, Result, Ok, Err, Bool, true, false, ap, sym, ◌∙◌, subst, append_assoc, get_or, drop, length, ◌<◌, ◌+◌}
-use Rattle.std.specs.List.{flat_map}
-use Rattle.std.proofs.lemmas.List.{append-nil, map-append, at_drop_more, drop_all}
+use Rattle.std.proofs.Common.{◌≡◌, refl, ℕ, List, [], ◌∷◌, ◌++◌, map, Option, Result, Ok, Err, ap, sym, ◌∙◌, subst, append_assoc, get_or, drop, length, ◌<◌, ◌+◌}
+use Rattle.std.proofs.lemmas.List.{append-nil, map-append, at_drop_more}
 use Rattle.csv.specs.Records.{fields_of}
 use Rattle.dfx_value.specs.Checked.{◌>>=◌}
 use Rattle.dfx_value.specs.Print.{printed}
@@ -11,8 +10,8 @@ use Rattle.dfx_value.specs.declared.fault.ItemFault.TheVariants.{Evaluation}
 use Rattle.scalar_exprs.specs.declared.expr.Expr.{Expr}
 use Rattle.scalar_exprs.specs.declared.refused.EvalRefused.{EvalRefused}
 use Rattle.scalar_exprs.specs.declared.refused.EvalRefused.TheVariants as refused
-use Rattle.scalar_exprs.specs.Eval.{eval, Gives, Outcome}
-use Rattle.logical_plan.specs.Items.{Cells, Item, tested, filter_items, project_items, projected_row, as_item}
+use Rattle.scalar_exprs.specs.Eval.{eval, Outcome}
+use Rattle.logical_plan.specs.Items.{Cells, Item, tested, filter_items, projected_row, as_item}
 use Rattle.result_text.specs.AnswerText.{row_line}
 use Rattle.result_text.specs.RowLines.{Holds}
 use Rattle.result_text.specs.declared.row_lines.RowLines.{RowLines}

@@ -1,5 +1,5 @@
 -- The files of one table among all.
-use Rattle.std.proofs.Common.{◌≡◌, refl, ℕ, zero, suc, ◌+◌, List, [], ◌∷◌, Option, Some, None, ap, sym, ◌∙◌, slice_get, arith}
+use Rattle.std.proofs.Common.{◌≡◌, ℕ, zero, suc, ◌+◌, List, [], ◌∷◌, Some, ap, ◌∙◌, slice_get, arith}
 use Rattle.dfx_outside.specs.Contents.{Contents}
 use Rattle.scan_run.specs.Sources.{CsvTable, table_files, tables_from}
 

@@ -1,15 +1,14 @@
 -- Meaning: how the run of a query over a chain ends, and what it wrote.
 use Rattle.std.specs.Prelude.{ℕ, ◌≡◌, ◌⊎◌, ◌++◌, ◌∷◌, List, length, Option, Some, None, Result, Ok, Err, ⊤, slice_get, Contains}
-use Rattle.dfx_outside.specs.Bytes.{EndsInFront}
 use Rattle.dfx_outside.specs.Contents.{Contents}
 use Rattle.dfx_value.specs.declared.fault.ItemFault.{ItemFault}
 use Rattle.dfx_value.specs.declared.fault.ItemFault.TheVariants.{Evaluation}
-use Rattle.logical_plan.specs.Items.{Cells, Item, concat, rows, faults}
-use Rattle.logical_plan.specs.Body.{Tables, all_faults}
+use Rattle.logical_plan.specs.Items.{Cells, Item, concat}
+use Rattle.logical_plan.specs.Body.{Tables}
 use Rattle.logical_plan.specs.Allowed.{Allowed}
 use Rattle.logical_plan.specs.declared.query.Query.{Query}
 use Rattle.result_text.specs.AnswerText.{header_line, answer_text}
-use Rattle.scan_run.specs.Chains.{Scanned, over}
+use Rattle.scan_run.specs.Chains.{Scanned}
 use Rattle.scan_run.specs.Sources.{table_files, missing, fault_of}
 use Rattle.scan_run.specs.Written.{WroteBefore, BeganOver}
 use Rattle.scan_run.specs.declared.refused.RunRefused.{RunRefused}

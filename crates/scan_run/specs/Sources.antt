@@ -1,5 +1,5 @@
 -- Meaning: the items of a table's CSV files.
-use Rattle.std.specs.Prelude.{ℕ, ◌+◌, Option, Some, None, Result, Ok, Err, List, [], ◌∷◌, map}
+use Rattle.std.specs.Prelude.{ℕ, ◌+◌, Option, Some, None, Ok, Err, List, [], ◌∷◌, map}
 use Rattle.dfx_outside.specs.Contents.{Contents, content}
 use Rattle.dfx_value.specs.declared.fault.ItemFault.{ItemFault}
 use Rattle.dfx_value.specs.declared.fault.ItemFault.TheVariants.{Csv}

@@ -1,5 +1,5 @@
 -- Words: what the steps of a run over a chain tell one another.
-use Rattle.std.specs.Prelude.{ℕ, ◌≡◌, ◌<◌, ◌≤◌, ◌%◌, ◌++◌, ◌∷◌, [], List, length, map, take, drop, Option, Some, None, Result, Ok, Err, ⊤}
+use Rattle.std.specs.Prelude.{ℕ, ◌≡◌, ◌≤◌, ◌%◌, ◌++◌, ◌∷◌, [], List, length, map, take, drop, Option, Some, None, Result, Ok, Err, ⊤}
 use Rattle.csv.specs.Records.{fields_of}
 use Rattle.csv_source.specs.CsvItems as csv
 use Rattle.csv_source.specs.declared.refused.CsvRefused.{CsvRefused}
@@ -23,7 +23,6 @@ use Rattle.scalar_exprs.specs.Eval.{Outcome}
 use Rattle.scalar_exprs.specs.declared.expr.Expr.{Expr}
 use Rattle.scalar_exprs.specs.declared.refused.EvalRefused.{EvalRefused}
 use Rattle.scalar_exprs.specs.declared.refused.EvalRefused.TheVariants as eval
-use Rattle.dfx_value.specs.declared.kind.Kind.{Kind}
 use Rattle.scan_run.specs.Chains.{Scanned, over}
 use Rattle.scan_run.specs.Sources.{item_of, fault_of, files_from, missing, missing_from}
 use Rattle.scan_run.specs.Written.{batch_rows, lines, WroteAll, WroteBefore}

@@ -1,4 +1,4 @@
-use Rattle.std.proofs.Common.{◌≡◌, ◌≤◌, ◌+◌, ◌<◌, ℕ, List, false}
+use Rattle.std.proofs.Common.{◌≡◌, ◌≤◌, ◌+◌, ℕ, List, false}
 use Rattle.csv_source.specs.CsvItems as csv
 use Rattle.csv_source.specs.ScanView.{left_count}
 use Rattle.scan_run.specs.Words.{Taken}

@@ -1,4 +1,4 @@
-use Rattle.std.proofs.Common.{◌≡◌, ◌∙◌, ap, sym, Some, Err}
+use Rattle.std.proofs.Common.{◌≡◌, ◌∙◌, ap, sym, Err}
 use Rattle.csv_source.specs.declared.refused.CsvRefused.{CsvRefused}
 use Rattle.scan_run.specs.Words.{fault_named}
 use Rattle.scan_run.proofs.BatchSteps.{taken_more, taken_all, meets_bad, meets_evaluation, err_same}

@@ -1,10 +1,6 @@
-use Rattle.std.proofs.Common.{◌≡◌, ◌∙◌, ap, sym, Ok, Err, Some, true, false, ◌++◌, [], subst}
+use Rattle.std.proofs.Common.{◌≡◌, ◌∙◌, ap, sym, Ok, Err, []}
 use Rattle.std.proofs.lemmas.Result.{err_from_is_err_and}
-use Rattle.dfx_outside.specs.Bytes.{EndsInFront}
-use Rattle.logical_plan.specs.Items.{of_rows}
-use Rattle.scan_run.specs.Written.{lines}
-use Rattle.scan_run.specs.Words.{fault_named}
-use Rattle.scan_run.proofs.BatchSteps.{taken_none, writing_more, writing_last, wrote_before, wrote_part, wrote_some, made_by, err_same, ok_same}
+use Rattle.scan_run.proofs.BatchSteps.{taken_none, writing_more, writing_last, wrote_before, wrote_part, wrote_some, made_by, err_same}
 use Rattle.scan_run.proofs.batches.write_batch.Goals as goal
 
 pub returns-in_err-more-clause-met : goal.returns-in_err-more-clause-met
@@ -40,6 +36,6 @@ pub returns-clause-part : goal.returns-clause-part
 returns-clause-part g c items before table w =
     let t0 = taken_none c.args.body.now w.rest _ c.new-lines.result w.left_is c.new-lines.ensures in
     let m = made_by c.in_ok-more.more c.args.body.now w.rest _ c.push_batch.new.scan.left c.push_batch.new.lines
-        (λ e. c.in_ok-more.ensures.more w.rest [] t0 (ap Ok e)) (λ e. c.in_ok-more.ensures.last w.rest [] t0 (ap Ok e)) in
+    (λ e. c.in_ok-more.ensures.more w.rest [] t0 (ap Ok e)) (λ e. c.in_ok-more.ensures.last w.rest [] t0 (ap Ok e)) in
     let written = rw (c.as_slice.ensures, c.in-Ok.ensures _ m.holds) at (c.in-Err.ensures.err _ w.written) in
     wrote_some c.args.body.now items before table c.args.file _ _ _ c.push_batch.new.lines w m written

@@ -1,6 +1,5 @@
-use Rattle.std.proofs.Common.{◌≡◌, ◌≤◌, ◌<◌, ◌∙◌, ap, sym, Err, Some, length, arith, rules, map, get_or, [], List, ℕ, subst, Option}
+use Rattle.std.proofs.Common.{◌≡◌, ◌∙◌, ap, sym, Err, Some, length, arith, rules, map, subst}
 use Rattle.std.proofs.lemmas.Result.{err_from_is_err_and}
-use Rattle.scan_run.specs.Sources.{missing}
 use Rattle.scan_run.specs.Words.{Opening}
 use Rattle.scan_run.specs.declared.refused.RunRefused.TheVariants as refused
 use Rattle.scan_run.proofs.BatchSteps.{err_same}

@@ -1,4 +1,4 @@
-use Rattle.std.proofs.Common.{◌≡◌, ◌≤◌, ℕ, Some, length, map}
+use Rattle.std.proofs.Common.{◌≡◌, ◌≤◌, Some, length, map}
 use Rattle.dfx_outside.specs.Contents.{Contents}
 use Rattle.scan_run.specs.Words.{Opening}
 use Rattle.scan_run.proofs.opened.open_all.Given as goal

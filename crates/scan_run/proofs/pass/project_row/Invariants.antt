@@ -1,5 +1,4 @@
-use Rattle.std.proofs.Common.{◌≡◌, ◌++◌, drop, Ok}
-use Rattle.dfx_value.specs.Checked.{◌>>=◌}
+use Rattle.std.proofs.Common.{◌≡◌, drop}
 use Rattle.logical_plan.specs.Items.{projected_row}
 use Rattle.scan_run.specs.Words.{after}
 use Rattle.scan_run.proofs.pass.project_row.Given as goal

@@ -1,10 +1,7 @@
-use Rattle.std.proofs.Common.{◌≡◌, ◌∙◌, ap, sym, subst, drop, [], Ok, length, arith, rules, ℕ, List}
+use Rattle.std.proofs.Common.{◌≡◌, ap, subst, drop, [], arith, rules}
 use Rattle.std.proofs.lemmas.List.{drop_all}
-use Rattle.std.proofs.lemmas.Result.{err_from_is_err_and, on_ok_weaker}
-use Rattle.csv.specs.Records.{fields_of}
-use Rattle.csv.specs.Writing.{row_text, default_writer}
-use Rattle.logical_plan.specs.Items.{as_item, projected_row}
-use Rattle.result_text.specs.RowLines.{Holds}
+use Rattle.std.proofs.lemmas.Result.{err_from_is_err_and}
+use Rattle.logical_plan.specs.Items.{as_item}
 use Rattle.scan_run.specs.Words.{Projecting}
 use Rattle.scan_run.proofs.PassSteps.{at_place, adds_refused, adds_row, projecting_more, projecting_all}
 use Rattle.scan_run.proofs.pass.push_projected.Goals as goal

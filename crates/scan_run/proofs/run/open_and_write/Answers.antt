@@ -1,8 +1,6 @@
-use Rattle.std.proofs.Common.{◌≡◌, ◌∙◌, ap, sym, ℕ, Ok, Err}
+use Rattle.std.proofs.Common.{ap, ℕ, Err}
 use Rattle.std.proofs.lemmas.Result.{err_from_is_err_and, on_err_weaker}
 use Rattle.scan_run.specs.Outcomes.{Asked}
-use Rattle.scan_run.specs.declared.refused.RunRefused.TheVariants as refused
-use Rattle.scan_run.proofs.BatchSteps.{err_same}
 use Rattle.scan_run.proofs.EndSteps.{ran_by, ran_opening, began, began_unopened}
 use Rattle.scan_run.proofs.run.open_and_write.Goals as goal
 

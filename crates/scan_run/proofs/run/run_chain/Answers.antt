@@ -1,6 +1,4 @@
-use Rattle.std.proofs.Common.{◌≡◌, rules}
 use Rattle.logical_plan.specs.Body.{all_faults}
-use Rattle.dfx_outside.specs.Causes.{Rose}
 use Rattle.scan_run.specs.Outcomes.{Asked}
 use Rattle.scan_run.proofs.EndSteps.{ran_met, complete_by, rose_later}
 use Rattle.scan_run.proofs.run.run_chain.Goals as goal
