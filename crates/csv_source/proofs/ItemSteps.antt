@@ -1,12 +1,12 @@
 -- The items of records, one by one.
-use Rattle.std.proofs.Common.{◌≡◌, refl, ℕ, zero, suc, ◌+◌, ◌^◌, ◌≤◌, ◌<◌, Bool, true, false, List, [], ◌∷◌, ◌++◌, length, map, take, drop, Option, Some, None, option_map, Result, Ok, Err, ap, sym, ◌∙◌, arith, append_assoc, length-append}
+use Rattle.std.proofs.Common.{◌≡◌, refl, ℕ, suc, ◌+◌, ◌^◌, ◌≤◌, ◌<◌, true, List, [], ◌∷◌, ◌++◌, length, map, Option, Some, None, option_map, Result, Ok, Err, ap, sym, ◌∙◌, arith, length-append}
 use Rattle.std.proofs.Math.Seq.{take-append_seam, drop-append_seam}
 use Rattle.std.proofs.lemmas.List.{take_all, drop_all, append-nil}
 use Rattle.dfx_value.specs.declared.kind.Kind.{Kind}
 use Rattle.dfx_value.specs.declared.value.Value.{Value as Cell}
 use Rattle.csv_source.specs.declared.refused.CsvRefused.{CsvRefused}
 use Rattle.csv_source.specs.declared.refused.CsvRefused.TheVariants as refused
-use Rattle.csv_source.specs.CsvItems.{Item, items_from, and_then, record_item, is_bad}
+use Rattle.csv_source.specs.CsvItems.{Item, items_from, record_item, is_bad}
 use Rattle.csv_source.specs.Records.{Fields, Takes, HasNone}
 use Rattle.csv_source.specs.Rows.{Gives}
 use Rattle.csv_source.specs.ScanView.{left_count}

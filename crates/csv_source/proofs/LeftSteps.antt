@@ -1,5 +1,5 @@
 -- How many items a scan has left.
-use Rattle.std.proofs.Common.{◌≡◌, ℕ, suc, ◌+◌, ◌^◌, ◌≤◌, List, [], ◌∷◌, length, Option, Some, None, option_map, true, Ok, Err, arith, refl, ap, ◌<◌}
+use Rattle.std.proofs.Common.{◌≡◌, ℕ, suc, ◌+◌, ◌^◌, ◌≤◌, List, [], ◌∷◌, length, Option, Some, None, option_map, true, Ok, Err, arith, ap, ◌<◌}
 use Rattle.dfx_value.specs.declared.kind.Kind.{Kind}
 use Rattle.csv_source.specs.CsvItems.{Item, items_from, and_then, record_item}
 use Rattle.csv_source.specs.Records.{Fields, records_left}

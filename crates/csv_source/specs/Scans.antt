@@ -1,12 +1,11 @@
 -- Words: what a scan has left, and what a call takes of it.
-use Rattle.std.specs.Prelude.{◌≡◌, ◌+◌, ◌<◌, ◌^◌, ◌++◌, ◌∷◌, ℕ, Bool, true, false, List, [], length, map, take, drop, Option, Some, None, option_map, Result, Ok, Err, ⊤}
+use Rattle.std.specs.Prelude.{◌≡◌, ◌+◌, ◌<◌, ◌^◌, ◌++◌, ◌∷◌, ℕ, List, [], length, map, take, drop, Option, Some, None, option_map, Ok, Err}
 use Rattle.csv.specs.declared.reader.Reader.{Reader}
-use Rattle.dfx_value.specs.Kinds.{are_kinds}
 use Rattle.dfx_value.specs.declared.kind.Kind.{Kind}
 use Rattle.dfx_value.specs.declared.value.Value.{Value as Cell}
 use Rattle.csv_source.specs.declared.refused.CsvRefused.{CsvRefused}
-use Rattle.csv_source.specs.CsvItems.{Item, items_from, is_bad}
-use Rattle.csv_source.specs.Records.{Fields, IsSet, records_left}
+use Rattle.csv_source.specs.CsvItems.{Item, items_from}
+use Rattle.csv_source.specs.Records.{Fields, records_left}
 
 -- the items of the records that a reader has left, of which the first is the n-th, where its bytes are known
 abbrev pub items_left : {R : Type 0} → (R → Option (List ℕ)) → List Kind → ℕ → Reader R → Option (List Item)

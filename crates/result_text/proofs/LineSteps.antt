@@ -1,5 +1,5 @@
 -- The lines of rows, one more.
-use Rattle.std.proofs.Common.{◌≡◌, ℕ, zero, suc, ◌+◌, ◌<◌, ◌≤◌, List, [], ◌∷◌, ◌++◌, length, map, take, drop, get_or, ◌∙◌, sym, ap, refl, append_assoc, arith}
+use Rattle.std.proofs.Common.{◌≡◌, ℕ, ◌+◌, ◌<◌, ◌≤◌, List, [], ◌∷◌, ◌++◌, length, map, take, drop, get_or, ◌∙◌, sym, ap, append_assoc}
 use Rattle.std.proofs.lemmas.List.{take_more, append-nil, map-append, at_drop_more, drop_all}
 use Rattle.dfx_value.specs.Print.{printed}
 use Rattle.dfx_value.specs.declared.value.Value.{Value as Cell}

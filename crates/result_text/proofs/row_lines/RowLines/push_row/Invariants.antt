@@ -1,4 +1,4 @@
-use Rattle.std.proofs.Common.{◌≡◌, ◌++◌, [], ℕ, List, map, drop}
+use Rattle.std.proofs.Common.{◌≡◌, ◌++◌, ℕ, List, map, drop}
 use Rattle.csv.specs.Records.{fields_of}
 use Rattle.dfx_value.specs.Print.{printed}
 use Rattle.result_text.specs.RowLines.{Holds}
