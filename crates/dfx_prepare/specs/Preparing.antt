@@ -69,7 +69,7 @@ of_bound (Ok q) = Ok q
 of_bound (Err refusal) = Err (failure.Binder (named refusal))
 
 -- the query of a script over its tables
-abbrev pub query_of : Script → Result Query Failure
+unfoldable pub query_of : Script → Result Query Failure
 query_of script = of_bound (bound script (map schema_of script.tables))
 
 -- the finished plan of a query over tables of so many files

@@ -55,6 +55,7 @@ fn script_of(alloc: Global, text: &[u8]) -> Result<Script, Failure>
 }
 
 /// The query of a script over its tables, or its first refusal.
+#[tactic(auto, unfolding(crate::specs::Preparing::query_of))]
 fn query_of(alloc: Global, script: &Script) -> Result<Query, Failure>
     ensures found { OrMemory result (spec.query_of script.now) }
     ensures querying { IfErr result IsQuerying }
@@ -79,12 +80,7 @@ fn plan_of(alloc: Global, query: &Query, files: &[u32], n: u32) -> Result<Plan, 
 }
 
 /// A query with its finished plan.
-fn with_plan(
-    alloc: Global,
-    query: Query,
-    files: &[u32],
-    n: u32,
-) -> Result<(Query, Plan), NoMemory>
+fn with_plan(alloc: Global, query: Query, files: &[u32], n: u32) -> Result<(Query, Plan), NoMemory>
     ensures value { IfOk result (λ p. (p.0 ≡ query) × (p.1 ≡ spec.plan_of query files.now n)) }
     ensures planned { IfOk result (λ p. IsPlanned p.0 files.now p.1 n) }
 {

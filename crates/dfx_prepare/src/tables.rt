@@ -34,11 +34,7 @@ fn keep_csv(paths: &mut Vec<Text>)
 
 /// The files of a folder's table.
 
-fn folder_files<F: Files>(
-    alloc: Global,
-    files: &mut F,
-    folder: &Text,
-) -> Result<Seq<Text>, Failure>
+fn folder_files<F: Files>(alloc: Global, files: &mut F, folder: &Text) -> Result<Seq<Text>, Failure>
     ensures found { (all : Contents) → F.told files.old ≡ Some all → Answers result (spec.folder_files all folder.now) }
     ensures same { F.told files.new ≡ F.told files.old }
     ensures later { (F.faults files.old ≤ F.faults files.new) × (F.absences files.old ≤ F.absences files.new) }

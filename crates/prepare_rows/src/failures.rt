@@ -29,7 +29,10 @@ fn is_failure(
 #[test]
 fn refused_texts(rt: HostRuntime) -> Result<(), Fail> {
     for (refused, want) in [
-        (LexRefused::TooLong { length: 1_048_577 }, "sql lexer at 1048576"),
+        (
+            LexRefused::TooLong { length: 1_048_577 },
+            "sql lexer at 1048576",
+        ),
         (LexRefused::NotUtf8 { place: 0 }, "sql lexer at 0"),
         (LexRefused::BadCharacter { place: 7 }, "sql lexer at 7"),
         (LexRefused::OpenQuote { place: 10 }, "sql lexer at 10"),
@@ -45,7 +48,10 @@ fn refused_tokens(rt: HostRuntime) -> Result<(), Fail> {
     for (refused, want) in [
         (SyntaxRefused::Unexpected { place: 7 }, "sql syntax at 7"),
         (SyntaxRefused::TooDeep { place: 64 }, "sql syntax at 64"),
-        (SyntaxRefused::TooMany { place: 1_000 }, "sql syntax at 1000"),
+        (
+            SyntaxRefused::TooMany { place: 1_000 },
+            "sql syntax at 1000",
+        ),
     ] {
         is_failure(&rt, rt.alloc(), &Failure::Syntax(refused), 3, want)?;
     }
@@ -55,7 +61,10 @@ fn refused_tokens(rt: HostRuntime) -> Result<(), Fail> {
 #[test]
 fn refused_queries(rt: HostRuntime) -> Result<(), Fail> {
     for (refused, want) in [
-        (BindRefused::UnknownTable { place: 14 }, "sql binder 1 at 14"),
+        (
+            BindRefused::UnknownTable { place: 14 },
+            "sql binder 1 at 14",
+        ),
         (BindRefused::UnknownColumn { place: 0 }, "sql binder 2 at 0"),
         (BindRefused::Ambiguous { place: 7 }, "sql binder 3 at 7"),
         (BindRefused::KindMismatch { place: 7 }, "sql binder 4 at 7"),

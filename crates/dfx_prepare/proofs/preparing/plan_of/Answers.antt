@@ -10,7 +10,7 @@ use Rattle.dfx_prepare.proofs.preparing.plan_of.Goals as goal
 pub returns-clause-planned : goal.returns-clause-planned
 returns-clause-planned c =
     let is : enforce_sorting c.in_ok-spread.spread ≡ plan_of c.args.query.now c.args.files.now c.args.n =
-        ap enforce_sorting (c.in_ok-spread.ensures ∙ ap (λ (p : Plan). enforce_distribution p c.args.n) c.in_ok-plain.ensures) in
+    ap enforce_sorting (c.in_ok-spread.ensures ∙ ap (λ (p : Plan). enforce_distribution p c.args.n) c.in_ok-plain.ensures) in
     if_ok_as (λ (p : Plan). IsPlanned c.args.query.now c.args.files.now p c.args.n) (enforce_sorting c.in_ok-spread.spread) c.enforce_sorting.result
     (subst (λ (p : Plan). IsPlanned c.args.query.now c.args.files.now p c.args.n) (sym is) (c.planned_law.ensures c.args.query.now c.args.files.now c.args.n))
     c.enforce_sorting.ensures
