@@ -1,0 +1,218 @@
+-- The items of a select, and its groups.
+use Rattle.std.proofs.Common.{ℕ, zero, suc, ◌≡◌, ◌+◌, ◌≤◌, refl, sym, ap, ◌∙◌, subst, cond, Bool, true, false, Option, Some, None, Ok, List, [], ◌∷◌, ◌++◌, map, length, length-append, arith}
+use Rattle.std.proofs.lemmas.List.{length-map}
+use Rattle.std.proofs.lemmas.Bool.{lt-ltb}
+use Rattle.dfx_value.specs.declared.kind.Kind.TheVariants as kind
+use Rattle.scalar_exprs.specs.declared.expr.Expr.{Expr}
+use Rattle.logical_plan.specs.declared.plan.Logical.{Logical}
+use Rattle.logical_plan.specs.declared.plan.Logical.TheVariants as plan
+use Rattle.sql_parser.specs.declared.ast.FnAst.{FnAst}
+use Rattle.sql_parser.specs.declared.ast.FnAst.TheVariants as fn
+use Rattle.sql_parser.specs.declared.ast.ExprAst.{ExprAst}
+use Rattle.sql_parser.specs.declared.ast.ItemAst.{ItemAst}
+use Rattle.expr_binder.specs.declared.typed.Typed.{Typed}
+use Rattle.expr_binder.specs.declared.refusal.Why.TheVariants as why
+use Rattle.expr_binder.specs.Answer.{Answer, ◌>>=◌}
+use Rattle.expr_binder.specs.Scopes.{Columns}
+use Rattle.expr_binder.specs.Typed.{Kinded, settled, tested}
+use Rattle.expr_binder.specs.Groups.{Groups}
+use Rattle.expr_binder.specs.Meaning.{meaning, place_of}
+use Rattle.join_lowering.specs.Keys.{columns as columns_of}
+use Rattle.sql_binder.specs.declared.items.Output.{Output}
+use Rattle.sql_binder.specs.declared.selected.Selected.{Selected}
+use Rattle.sql_binder.specs.declared.sources.Source.{Source}
+use Rattle.sql_binder.specs.Items.{outputs, exprs}
+use Rattle.sql_binder.specs.Grouped.{is_number, key, keys, calls, is_grouped, argument, of_column, numbered, arguments_of, settled_expr, arguments, columns_from, first_columns, key_kinds, aggregated, having, exprs as key_exprs}
+use Rattle.sql_binder.specs.Orders.{item_tests}
+use Rattle.sql_binder.specs.Selects.{Parts, distinct_if, projected, plain, over_keys, groups_body, over_groups, grouped, selected}
+use Rattle.physical_plan.proofs.Everywhere.{both_true}
+use Rattle.range_laws.specs.Ranges.{are_below, call_column, call_columns, expr_columns}
+use Rattle.range_laws.specs.Queries.{body_width, body_in_range}
+use Rattle.range_laws.proofs.Below.{below_append}
+use Rattle.range_laws.proofs.BodyNodes.{holds-Filter, holds-Project, holds-Aggregate, holds-Distinct, width-Filter, width-Project, width-Aggregate, width-Distinct}
+use Rattle.binder_laws.proofs.Holding.{Holds, after, unless, Every, every_of, AreSo, each_holds}
+use Rattle.binder_laws.proofs.Readings.{Reads, Typing, given_reads, tested_reads}
+use Rattle.binder_laws.proofs.Meanings.{means}
+use Rattle.binder_laws.proofs.Lowered.{exprs_append}
+use Rattle.binder_laws.proofs.Found.{ItemFound, HavingFound, all_items_found, all_having_found}
+use Rattle.binder_laws.proofs.Groupings.{means_over}
+use Rattle.binder_laws.proofs.Outputs.{Outputs, plain_wide, group_wide, outputs_read, outputs_below, plain_items, group_items}
+
+-- ---- selects
+
+-- as many names and kinds as columns, all of which are in range
+pub record Fits (s : Selected) : Type 0 where
+  pub body : body_in_range s.body ≡ true
+  pub kinds_of : body_width s.body ≡ length s.kinds
+  pub names_of : length s.names ≡ length s.kinds
+
+-- and a test for each column of the items of a select
+abbrev pub FitsItems : List ItemAst → Selected → Type 0
+FitsItems items s = Fits s × (length (item_tests s.columns items) ≡ length s.kinds)
+
+abbrev pub Sourced : Source → Type 0
+Sourced s = (body_in_range s.body ≡ true) × (body_width s.body ≡ length s.columns)
+
+distinct_holds : (b : Bool) (body : Logical) → body_in_range body ≡ true → body_in_range (distinct_if b body) ≡ true
+distinct_holds true body h = holds-Distinct body h
+distinct_holds false body h = h
+
+distinct_width : (b : Bool) (body : Logical) → body_width (distinct_if b body) ≡ body_width body
+distinct_width true body = width-Distinct body
+distinct_width false body = refl
+
+projected_fits : (distinct : Bool) (columns : Columns) (items : List ItemAst) (os : List Output) (body : Logical) (w : ℕ) → Outputs w (length (item_tests columns items)) os → body_in_range body ≡ true → body_width body ≡ w → FitsItems items (projected distinct columns os body)
+projected_fits distinct columns items os body w n h e = (
+  record {
+    body = distinct_holds distinct (plan.Project body (exprs os)) (holds-Project body (exprs os) (ap (λ (x : ℕ). are_below x (expr_columns (exprs os))) e ∙ outputs_below w os n.1) h);
+    kinds_of = distinct_width distinct (plan.Project body (exprs os)) ∙ width-Project body (exprs os) ∙ length-map os _ ∙ sym (length-map os _);
+    names_of = length-map os _ ∙ sym (length-map os _);
+  },
+  sym n.0 ∙ sym (length-map os _),
+)
+
+plain_fits : (distinct : Bool) (items : List ItemAst) (s : Source) → Sourced s → Holds (FitsItems items) (plain distinct items s)
+plain_fits distinct items s h =
+    after (Outputs (length s.columns) (length (item_tests s.columns items))) (FitsItems items) (outputs s.columns None items) (λ os. Ok (projected distinct s.columns os s.body))
+    (outputs_read s.columns None (length s.columns) (plain_wide s.columns) items (plain_items s.columns items))
+    (λ os n. projected_fits distinct s.columns items os s.body (length s.columns) n h.0 h.1)
+
+-- ---- keys, arguments and calls
+
+from_below : (k n w : ℕ) → k + n ≤ w → are_below w (columns_from k n) ≡ true
+from_below k zero w h = refl
+from_below k (suc n) w h = both_true _ _ (lt-ltb k w (omega arith)) (from_below (k + 1) n w (omega arith))
+
+call_below : (f : FnAst) (k w : ℕ) → suc k ≤ w → are_below w (call_column (of_column f k)) ≡ true
+call_below fn.Sum k w h = both_true _ _ (lt-ltb k w h) refl
+call_below fn.Min k w h = both_true _ _ (lt-ltb k w h) refl
+call_below fn.Max k w h = both_true _ _ (lt-ltb k w h) refl
+call_below fn.Avg k w h = both_true _ _ (lt-ltb k w h) refl
+call_below fn.Count k w h = both_true _ _ (lt-ltb k w h) refl
+call_below fn.Coalesce k w h = both_true _ _ (lt-ltb k w h) refl
+call_below fn.Abs k w h = both_true _ _ (lt-ltb k w h) refl
+call_below fn.Length k w h = both_true _ _ (lt-ltb k w h) refl
+
+calls_below : (found : List (Option (FnAst × ExprAst))) (k w : ℕ) → k + length (arguments_of found) ≤ w → are_below w (call_columns (numbered k found)) ≡ true
+calls_below [] k w h = refl
+calls_below (None ∷ more) k w h = calls_below more k w h
+calls_below (Some (f, a) ∷ more) k w h = below_append w (call_column (of_column f k)) (call_columns (numbered (suc k) more)) (call_below f k w (omega arith)) (calls_below more (suc k) w (omega arith))
+
+numbered_length : (k : ℕ) (found : List (Option (FnAst × ExprAst))) → length (numbered k found) ≡ length found
+numbered_length k [] = refl
+numbered_length k (None ∷ more) = ap suc (numbered_length k more)
+numbered_length k (Some (f, a) ∷ more) = ap suc (numbered_length (suc k) more)
+
+columns_length : (k n : ℕ) → length (columns_from k n) ≡ n
+columns_length k zero = refl
+columns_length k (suc n) = ap suc (columns_length (k + 1) n)
+
+abbrev KeyReads : ℕ → Kinded → Type 0
+KeyReads w k = Reads w k.0
+
+keys_below : (w : ℕ) (ks : List Kinded) → Every (KeyReads w) ks → are_below w (expr_columns (key_exprs ks)) ≡ true
+keys_below w [] h = refl
+keys_below w (k ∷ ks) h = below_append w (columns_of k.0) (expr_columns (key_exprs ks)) h.0 (keys_below w ks h.1)
+
+args_below : (w : ℕ) (es : List Expr) → Every (Reads w) es → are_below w (expr_columns es) ≡ true
+args_below w [] h = refl
+args_below w (e ∷ es) h = below_append w (columns_of e) (expr_columns es) h.0 (args_below w es h.1)
+
+module _ (columns : Columns) where
+  abbrev KeyHere : Kinded → Type 0
+  KeyHere = KeyReads (length columns)
+
+  abbrev ReadsHere : Expr → Type 0
+  ReadsHere = Reads (length columns)
+
+  abbrev TypingHere : Typed → Type 0
+  TypingHere = Typing (length columns)
+
+  key_reads : (e : ExprAst) → Holds KeyHere (key columns e)
+  key_reads e =
+      unless KeyHere (is_number e) why.Unsupported (place_of e) (meaning columns e None >>= λ t. Ok (settled t))
+      (after TypingHere KeyHere (meaning columns e None) (λ t. Ok (settled t)) (means columns e) (λ t h. given_reads (length columns) kind.Text t h))
+
+  keys_read : (es : List ExprAst) → Holds (AreSo KeyHere (length es)) (keys columns es)
+  keys_read es = each_holds KeyHere (key columns) es (every_of (λ e. Holds KeyHere (key columns e)) key_reads es)
+
+  argument_reads : (e : ExprAst) → Holds ReadsHere (settled_expr columns e)
+  argument_reads e = after TypingHere ReadsHere (meaning columns e None) (λ t. Ok (settled t).0) (means columns e) (λ t h. given_reads (length columns) kind.Text t h)
+
+  arguments_read : (found : List (Option (FnAst × ExprAst))) → Holds (AreSo ReadsHere (length (arguments_of found))) (arguments columns found)
+  arguments_read found = each_holds ReadsHere (settled_expr columns) (arguments_of found) (every_of (λ e. Holds ReadsHere (settled_expr columns e)) argument_reads (arguments_of found))
+
+-- ---- groups
+
+abbrev Stands : ℕ → Logical → Type 0
+Stands w body = (body_in_range body ≡ true) × (body_width body ≡ w)
+
+aggregated_stands : (columns : Columns) (body : Logical) (ks : List Kinded) (args : List Expr) (found : List (Option (FnAst × ExprAst))) → Every (KeyReads (length columns)) ks → AreSo (Reads (length columns)) (length (arguments_of found)) args → Stands (length columns) body
+    → Stands (length ks + length found) (aggregated body ks args (numbered (length ks) found))
+aggregated_stands columns body ks args found k r h = (
+  holds-Aggregate (plan.Project body (key_exprs ks ++ args)) (first_columns (length ks)) (numbered (length ks) found)
+      (ap (λ (w : ℕ). are_below w (first_columns (length ks))) wide ∙ from_below 0 (length ks) (length ks + length args) (omega arith))
+      (ap (λ (w : ℕ). are_below w (call_columns (numbered (length ks) found))) wide ∙ calls_below found (length ks) (length ks + length args) (let e = r.0 in omega arith))
+      (holds-Project body (key_exprs ks ++ args)
+      (ap (λ (w : ℕ). are_below w (expr_columns (key_exprs ks ++ args))) h.1 ∙ exprs_append (length columns) (key_exprs ks) args (keys_below (length columns) ks k) (args_below (length columns) args r.1)) h.0),
+  width-Aggregate (plan.Project body (key_exprs ks ++ args)) (first_columns (length ks)) (numbered (length ks) found)
+      ∙ ap (λ (x : ℕ). x + length (numbered (length ks) found)) (columns_length 0 (length ks)) ∙ ap (λ (x : ℕ). length ks + x) (numbered_length (length ks) found),
+)
+  where
+    wide : body_width (plan.Project body (key_exprs ks ++ args)) ≡ length ks + length args
+    wide = width-Project body (key_exprs ks ++ args) ∙ length-append (key_exprs ks) args ∙ ap (λ (x : ℕ). x + length args) (length-map ks _)
+
+having_stands : (columns : Columns) (g : Groups) (w : ℕ) → w ≡ length g.keys + length g.calls → (test : Option ExprAst) (body : Logical) → HavingFound columns g.calls test → Stands w body → Holds (Stands w) (having columns (Some g) test body)
+having_stands columns g w q None body f h = h
+having_stands columns g w q (Some e) body f h =
+    after (Reads w) (Stands w) (meaning columns e (Some g) >>= tested (place_of e)) (λ test. Ok (plan.Filter body test))
+    (after (Typing w) (Reads w) (meaning columns e (Some g)) (tested (place_of e)) (subst (λ (x : ℕ). Holds (Typing x) (meaning columns e (Some g))) (sym q) (means_over columns g e f)) (tested_reads w (place_of e)))
+    (λ test r. (holds-Filter body test (ap (λ (x : ℕ). are_below x (columns_of test)) h.1 ∙ r) h.0, width-Filter body test ∙ h.1))
+
+-- the calls of the items and of HAVING are among those that were found
+abbrev AllFound : Columns → Parts → List ExprAst → Type 0
+AllFound columns p found = Every (ItemFound columns found) p.items × HavingFound columns found p.having
+
+abbrev groups_of : Parts → List ExprAst → List Kinded → Groups
+groups_of p found ks = record { keys = p.groups; kinds = key_kinds ks; calls = found }
+
+module _ (p : Parts) (found : List ExprAst) (columns : Columns) (f : AllFound columns p found) where
+  abbrev w : ℕ
+  w = length p.groups + length found
+
+  abbrev Grouping : List Output × Logical → Type 0
+  Grouping g = Outputs w (length (item_tests columns p.items)) g.0 × Stands w g.1
+
+  abbrev rows : Logical → List Kinded → List Expr → Logical
+  rows body ks args = aggregated body ks args (numbered (length ks) (map argument found))
+
+  rows_stand : (body : Logical) (ks : List Kinded) (args : List Expr) → AreSo (KeyReads (length columns)) (length p.groups) ks → AreSo (Reads (length columns)) (length (arguments_of (map argument found))) args → Stands (length columns) body → Stands w (rows body ks args)
+  rows_stand body ks args k m h =
+      let e = k.0 in
+      let l = length-map found argument in
+      let n : length ks + length (map argument found) ≡ length p.groups + length found = omega arith in
+      subst (λ (x : ℕ). Stands x (rows body ks args)) n (aggregated_stands columns body ks args (map argument found) k.1 m h)
+
+  groups_stand : (ks : List Kinded) → AreSo (KeyReads (length columns)) (length p.groups) ks → (body : Logical) → Stands (length columns) body → Holds (Stands w) (groups_body p found columns ks body)
+  groups_stand ks k body h =
+      after (AreSo (Reads (length columns)) (length (arguments_of (map argument found)))) (Stands w) (arguments columns (map argument found)) (λ args. having columns (over_keys p columns found ks) p.having (rows body ks args)) (arguments_read columns (map argument found))
+      (λ args m. having_stands columns (groups_of p found ks) w refl p.having (rows body ks args) f.1 (rows_stand body ks args k m h))
+
+  groups_fit : (body : Logical) → Stands (length columns) body → Holds Grouping (over_groups p found columns body)
+  groups_fit body h =
+      after (AreSo (KeyReads (length columns)) (length p.groups)) Grouping (keys columns p.groups) _ (keys_read columns p.groups) (λ ks k.
+      after (Outputs w (length (item_tests columns p.items))) Grouping (outputs columns (over_keys p columns found ks) p.items) _
+      (outputs_read columns (Some (groups_of p found ks)) w (group_wide columns (groups_of p found ks)) p.items (group_items columns (groups_of p found ks) p.items f.0)) (λ os n.
+      after (Stands w) Grouping (groups_body p found columns ks body) (λ groups. Ok (os, groups)) (groups_stand ks k body h) (λ b i. (n, i))))
+
+  grouped_fits : (s : Source) → s.columns ≡ columns → Sourced s → Holds (FitsItems p.items) (over_groups p found columns s.body >>= λ g. Ok (projected p.distinct columns g.0 g.1))
+  grouped_fits s q h =
+      after Grouping (FitsItems p.items) (over_groups p found columns s.body) (λ g. Ok (projected p.distinct columns g.0 g.1)) (groups_fit s.body (h.0, h.1 ∙ ap (λ (cs : Columns). length cs) q))
+      (λ g i. projected_fits p.distinct columns p.items g.0 g.1 w i.0 i.1.0 i.1.1)
+
+pub selected_fits : (p : Parts) (s : Source) → Sourced s → Holds (FitsItems p.items) (selected p s)
+selected_fits p s h = go (is_grouped p.groups p.having (calls s.columns p.items p.having))
+  where
+    go : (b : Bool) → Holds (FitsItems p.items) (cond {A = Answer Selected} b (grouped p (calls s.columns p.items p.having) s) (plain p.distinct p.items s))
+    go true = grouped_fits p (calls s.columns p.items p.having) s.columns (all_items_found s.columns p.items p.having, all_having_found s.columns p.items p.having) s refl h
+    go false = plain_fits p.distinct p.items s h

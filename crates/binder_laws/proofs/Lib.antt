@@ -1,0 +1,16 @@
+pub mod Holding
+pub mod Readings
+pub mod Meanings
+pub mod Selves
+pub mod Found
+pub mod Groupings
+pub mod Parts
+pub mod Renumbered
+pub mod Lowered
+pub mod Outputs
+pub mod Items
+pub mod Unions
+pub mod Trees
+pub mod Froms
+pub mod Ordering
+pub mod Bounds
