@@ -58,7 +58,7 @@ bound_next schemas n p ps done s within at h =
     ap (λ (xs : List SelectAst). each_after placed done (map (select schemas) xs)) (drop_more ps n p within ∙ ap (λ (x : SelectAst). x ∷ drop (n + 1) ps) (sym at))
     ∙ ap (λ (x : Selecting). each_after placed done (x ∷ map (select schemas) (drop (n + 1) ps))) at_place
     ∙ with_select schemas p s done (map (select schemas) (drop (n + 1) ps)) ((select schemas p).select) h where
-  at_place : select schemas p ≡ record { place = (out-SelectAst p).place; select = (select schemas p).select }
-  at_place = ap (λ (k : ℕ). record { place = k; select = (select schemas p).select }) (select-place schemas p)
+      at_place : select schemas p ≡ record { place = (out-SelectAst p).place; select = (select schemas p).select }
+      at_place = ap (λ (k : ℕ). record { place = k; select = (select schemas p).select }) (select-place schemas p)
 
 pub ruleset selects = (select-place, select-select, joining-kind, joining-right, joining-on, reading-Named, reading-Derived)

@@ -230,8 +230,14 @@ pub fn join_sources(
 ) -> Result<Source, Unbound>
     ensures { Gives result (spec.joined_on kind left right on.now) }
 {
-    let Source { columns: left_columns, body: left } = left;
-    let Source { columns: right_columns, body: right } = right;
+    let Source {
+        columns: left_columns,
+        body: left,
+    } = left;
+    let Source {
+        columns: right_columns,
+        body: right,
+    } = right;
     let left = (left, left_columns.len());
     let right = (right, right_columns.len());
     let columns = both(left_columns, right_columns)?;
