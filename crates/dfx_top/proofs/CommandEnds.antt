@@ -1,160 +1,229 @@
 -- How a command ends.
-use Rattle.std.proofs.Common.{◌≡◌, ◌⊎◌, refl, ℕ, List, [], ◌∷◌, ◌++◌, length, map, Option, Some, None, Result, Ok, Err, inl, inr, ap, sym, ◌∙◌, subst, option_map, append_assoc}
+use Rattle.std.proofs.Common.{◌≡◌, refl, ap, sym, ◌∙◌, subst, ℕ, ◌≤◌, List, [], ◌++◌, length, Option, Some, None, Result, Ok, Err, ◌⊎◌, inl, inr, append-nil}
 use Rattle.std.proofs.Math.Seq.{take-length}
-use Rattle.std.specs.Result.{OnOk, OnErr}
+use Rattle.std.specs.Prelude.{⊤}
+use Rattle.std.specs.Result.{OnOk, OnErr, IfErr}
 use Rattle.dfx_outside.specs.Bytes.{EndsInFront}
 use Rattle.dfx_outside.specs.Contents.{Contents, content}
-use Rattle.dfx_value.specs.declared.value.Value.{Value as Cell}
-use Rattle.csv_source.specs.CsvItems.{Item, csv_items}
-use Rattle.csv_source.specs.declared.refused.CsvRefused.{CsvRefused}
-use Rattle.dfx_top.specs.Queries.{Query}
-use Rattle.dfx_top.specs.Words.{script_path}
-use Rattle.dfx_top.specs.Asked.{asked, asked_by_text, by_asked, by_path, by_file, by_table, refusal_of, refused, refused_query}
-use Rattle.dfx_top.specs.Failures.{cause_of}
-use Rattle.dfx_top.specs.Answers.{Ran, Ended, Answered, Stopped, StoppedBy}
-use Rattle.run_journal.specs.declared.cause.Cause.{Cause}
-use Rattle.dfx_top.specs.Outcomes.{of_result, IsOpening, IsAsking, IsCalledFor, OrMemory}
-use Rattle.dfx_top.specs.declared.failure.Failure.{Failure}
-use Rattle.dfx_top.specs.declared.failure.Failure.TheVariants as failure
+use Rattle.dfx_value.specs.declared.fault.ItemFault.{ItemFault}
+use Rattle.dfx_prepare.specs.Preparing.{Path, followed}
+use Rattle.dfx_prepare.specs.Outcomes.{Answers, IsPreparing}
+use Rattle.dfx_prepare.specs.declared.failure.Failure.{Failure}
+use Rattle.dfx_prepare.specs.declared.failure.Failure.TheVariants as failure
+use Rattle.dfx_prepare.specs.declared.prepared.Prepared.{Prepared}
+use Rattle.dfx_top.specs.Answers.{EndedQuery, EndedExplain, text_of}
+use Rattle.dfx_top.specs.Asked.{Ready, ready, by_script, by_text, by_words, asked}
+use Rattle.dfx_top.specs.Words.{request_of, Asked as Wanted}
+use Rattle.dfx_top.specs.Outcomes.{IsCalledFor, IsMet, IsDone, IsWriting, IsOpening, of_result}
+use Rattle.dfx_outside.specs.Causes.{Rose}
+use Rattle.dfx_top.specs.Told.{Told, ToldQuery, Quiet}
+use Rattle.dfx_top.proofs.FaultSteps.{rose_since}
+use Rattle.dfx_top.specs.declared.words.Request.{Request}
+use Rattle.dfx_top.specs.declared.words.Request.TheVariants as request
 
 -- all of the line was taken, or a beginning
 pub line_taken : {T E : Type 0} (r : Result T E) (before line : List ℕ) (now : Option (List ℕ)) → OnOk r (now ≡ Some (before ++ line)) → OnErr r (EndsInFront before line now) → EndsInFront before line now
 line_taken (Ok x) before line now all front = record { count = length line; is = all ∙ ap (λ (t : List ℕ). Some (before ++ t)) (sym (take-length line)) }
 line_taken (Err e) before line now all front = front
 
--- rows before them refuse nothing
-refusal_behind : (rows : List (List Cell)) (items : List Item) → refusal_of (map {B = Item} Ok rows ++ items) ≡ refusal_of items
-refusal_behind [] items = refl
-refusal_behind (r ∷ rs) items = refusal_behind rs items
+-- nothing was written
+none_written : (before text : List ℕ) (now : Option (List ℕ)) → now ≡ Some before → EndsInFront before text now
+none_written before text now h = record { count = 0; is = h ∙ ap (λ (t : List ℕ). Some t) (sym (append-nil before)) }
 
-no_refusal : (rows : List (List Cell)) → refusal_of (map {B = Item} Ok rows) ≡ None
-no_refusal [] = refl
-no_refusal (r ∷ rs) = no_refusal rs
+abbrev prepared_of : Prepared → Result Ready Failure → Prepared
+prepared_of other (Ok (r, p)) = p
+prepared_of other (Err f) = other
 
--- an answered query is called for
-answered_called : (all : Contents) (before : List ℕ) (q : Query) (now : Option (List ℕ)) → Answered all before q now → None ≡ refused_query all q
-answered_called all before q now a =
-    sym (ap (by_table q) a.content_is ∙ ap (option_map (λ (e : CsvRefused). failure.BadFile q.path (cause_of e))) (ap refusal_of a.wrote.is ∙ no_refusal a.wrote.rows))
+-- whether a query is asked
+abbrev IsQuery : Result Ready Failure → Type 0
+IsQuery (Ok (request.Query, p)) = ⊤
+IsQuery (Ok (request.Explain n, p)) = ⊥
+IsQuery (Err f) = ⊥
 
--- a stopped one is refused
-stopped_called : (all : Contents) (before : List ℕ) (q : Query) (e : CsvRefused) (now : Option (List ℕ)) → Stopped all before q e now → Some (failure.BadFile q.path (cause_of e)) ≡ refused_query all q
-stopped_called all before q e now s =
-    let found : refusal_of (csv_items s.bytes q.kinds) ≡ Some e =
-    ap refusal_of (s.wrote.is ∙ append_assoc (map Ok s.wrote.rows) (map Ok s.wrote.others) (Err e ∷ []))
-    ∙ refusal_behind s.wrote.rows (map Ok s.wrote.others ++ Err e ∷ []) ∙ refusal_behind s.wrote.others (Err e ∷ []) in
-    sym (ap (by_table q) s.content_is ∙ ap (option_map (λ (x : CsvRefused). failure.BadFile q.path (cause_of x))) found)
+-- whether anything is asked
+abbrev IsAnswer : Result Ready Failure → Type 0
+IsAnswer (Ok r) = ⊤
+IsAnswer (Err f) = ⊥
 
-bad_called : (all : Contents) (before : List ℕ) (q : Query) (p : List ℕ) (cause : Cause) (now : Option (List ℕ)) → p ≡ q.path → StoppedBy all before q cause now
-    → Some (failure.BadFile p cause) ≡ refused_query all q
-bad_called all before q p cause now same (e, (is, stopped)) = (λ i. Some (failure.BadFile (same i) (is i))) ∙ stopped_called all before q e now stopped
+module _ (all : Contents) (before : List ℕ) (now : Option (List ℕ)) (quiet : Type 0) where
+  -- ---- a request that was carried out
 
-called_run : {A : Type 0} (r : Result A Failure) (all : Contents) (before : List ℕ) (q : Query) (now : Option (List ℕ)) → Ran all before q now r → IsCalledFor (refused_query all q) (of_result r)
-called_run (Ok done) all before q now ran = answered_called all before q now ran
-called_run (Err (failure.BadFile p cause)) all before q now ran = bad_called all before q p cause now ran.0 ran.1
-called_run (Err (failure.Missing p)) all before q now ran = ap (λ (x : List ℕ). Some (failure.Missing x)) ran.0 ∙ sym (ap (by_table q) ran.1)
-called_run (Err failure.Read) all before q now ran = tt
-called_run (Err failure.Write) all before q now ran = tt
-called_run (Err failure.NoMemory) all before q now ran = tt
-called_run (Err failure.Words) all before q now ran = absurd ran
-called_run (Err (failure.Lexer e)) all before q now ran = absurd ran
-called_run (Err (failure.Syntax e)) all before q now ran = absurd ran
-called_run (Err failure.NotBuilt) all before q now ran = absurd ran
+  pub told_query : (p : Prepared) (f : Option Failure) → ToldQuery all before p now quiet f → Told all before (Ok (request.Query, p)) now quiet f
+  told_query p f h = record {
+    ended = h.ended;
+    called = h.called;
+    query = λ q e. subst (λ (x : Prepared). ToldQuery all before x now quiet f) (ap (prepared_of p) e) h;
+    explained = λ n q e. absurd (subst IsQuery e tt);
+  }
 
--- the command is called for as the run of the query that was asked
-pub called_by_run : {A : Type 0} (r : Result A Failure) (words : List (List ℕ)) (all : Contents) (before : List ℕ) (q : Query) (now : Option (List ℕ)) → asked words all ≡ Ok q → Ran all before q now r
-    → IsCalledFor (refused words all) (of_result r)
-called_by_run r words all before q now ask ran =
-    let P : Option Failure → Type 0 = λ e. IsCalledFor e (of_result r) in
-    subst P (sym (ap (by_asked all) ask)) (called_run r all before q now ran)
+  called_writing : (f : Failure) → IsWriting f → IsCalledFor None (Some f)
+  called_writing failure.Write w = tt
+  called_writing failure.NoMemory w = tt
+  called_writing failure.Words w = absurd w
+  called_writing (failure.Lexer e) w = absurd w
+  called_writing (failure.Syntax e) w = absurd w
+  called_writing (failure.Binder e) w = absurd w
+  called_writing failure.NotBuilt w = absurd w
+  called_writing (failure.TooManySources n) w = absurd w
+  called_writing (failure.Missing q) w = absurd w
+  called_writing (failure.BadFile q c) w = absurd w
+  called_writing failure.Read w = absurd w
+  called_writing (failure.Evaluation e) w = absurd w
 
--- the command ends as the run of the query that was asked
-pub ended_by_run : {A : Type 0} (r : Result A Failure) (words : List (List ℕ)) (all : Contents) (before : List ℕ) (q : Query) (now : Option (List ℕ)) → asked words all ≡ Ok q → Ran all before q now r
-    → Ended words all before now (of_result r)
-ended_by_run (Ok done) words all before q now ask ran = (q, (ask, ran))
-ended_by_run (Err (failure.Missing p)) words all before q now ask ran = ran.2
-ended_by_run (Err (failure.BadFile p cause)) words all before q now ask ran = (q, (ask, ran.1))
-ended_by_run (Err failure.Read) words all before q now ask (inl none) = inl none
-ended_by_run (Err failure.Read) words all before q now ask (inr began) = inr (q, (ask, began))
-ended_by_run (Err failure.Write) words all before q now ask (inl none) = inl none
-ended_by_run (Err failure.Write) words all before q now ask (inr began) = inr (q, (ask, began))
-ended_by_run (Err failure.NoMemory) words all before q now ask (inl none) = inl none
-ended_by_run (Err failure.NoMemory) words all before q now ask (inr began) = inr (q, (ask, began))
-ended_by_run (Err failure.Words) words all before q now ask ran = absurd ran
-ended_by_run (Err (failure.Lexer e)) words all before q now ask ran = absurd ran
-ended_by_run (Err (failure.Syntax e)) words all before q now ask ran = absurd ran
-ended_by_run (Err failure.NotBuilt) words all before q now ask ran = absurd ran
+  done_writing : (f : Failure) → IsWriting f → (f ≡ failure.Write → ¬ quiet) → quiet → IsDone (Some f)
+  done_writing failure.Write w loud q = absurd (loud refl q)
+  done_writing failure.NoMemory w loud q = tt
+  done_writing failure.Words w loud q = absurd w
+  done_writing (failure.Lexer e) w loud q = absurd w
+  done_writing (failure.Syntax e) w loud q = absurd w
+  done_writing (failure.Binder e) w loud q = absurd w
+  done_writing failure.NotBuilt w loud q = absurd w
+  done_writing (failure.TooManySources n) w loud q = absurd w
+  done_writing (failure.Missing p) w loud q = absurd w
+  done_writing (failure.BadFile p c) w loud q = absurd w
+  done_writing failure.Read w loud q = absurd w
+  done_writing (failure.Evaluation e) w loud q = absurd w
 
--- the file of the words was opened, or not
-pub ended_opening : (words : List (List ℕ)) (all : Contents) (before : List ℕ) (now : Option (List ℕ)) (f : Failure) → IsOpening f → now ≡ Some before → Ended words all before now (Some f)
-ended_opening words all before now (failure.Missing p) o same = same
-ended_opening words all before now failure.Read o same = inl same
-ended_opening words all before now failure.NoMemory o same = inl same
-ended_opening words all before now failure.Words o same = absurd o
-ended_opening words all before now (failure.Lexer e) o same = absurd o
-ended_opening words all before now (failure.Syntax e) o same = absurd o
-ended_opening words all before now failure.NotBuilt o same = absurd o
-ended_opening words all before now (failure.BadFile p cause) o same = absurd o
-ended_opening words all before now failure.Write o same = absurd o
+  told_of_explain : (n : ℕ) (p : Prepared) (f : Option Failure) → EndedExplain before p now f → IsCalledFor None f → (quiet → IsDone f) → Told all before (Ok (request.Explain n, p)) now quiet f
+  told_of_explain n p f h called done = record {
+    ended = h;
+    called = called;
+    query = λ q e. absurd (subst IsQuery (sym e) tt);
+    explained = λ m q e. done;
+  }
 
-missing_asked : (words : List (List ℕ)) (all : Contents) (path : List ℕ) → script_path words ≡ Some path → content all path ≡ None → asked words all ≡ Err (failure.Missing path)
-missing_asked words all path named none = ap (by_path all) named ∙ ap (by_file path) none
+  pub told_explain : {A : Type 0} (r : Result A Failure) (n : ℕ) (p : Prepared) → EndedExplain before p now (of_result r) → IfErr r IsWriting → (r ≡ Err failure.Write → ¬ quiet) → Told all before (Ok (request.Explain n, p)) now quiet (of_result r)
+  told_explain (Ok done) n p h w loud = told_of_explain n p None h refl (λ q. tt)
+  told_explain (Err f) n p h w loud = told_of_explain n p (Some f) h (called_writing f w) (done_writing f w (λ e. loud (ap Err e)))
 
-pub called_opening : (words : List (List ℕ)) (all : Contents) (path : List ℕ) (f : Failure) → script_path words ≡ Some path → IsOpening f
-    → ((p : List ℕ) → f ≡ failure.Missing p → (p ≡ path) × (content all path ≡ None)) → IsCalledFor (refused words all) (Some f)
-called_opening words all path (failure.Missing p) named o missing =
-    ap (λ (x : List ℕ). Some (failure.Missing x)) (missing p refl).0 ∙ sym (ap (by_asked all) (missing_asked words all path named (missing p refl).1))
-called_opening words all path failure.Read named o missing = tt
-called_opening words all path failure.NoMemory named o missing = tt
-called_opening words all path failure.Words named o missing = absurd o
-called_opening words all path (failure.Lexer e) named o missing = absurd o
-called_opening words all path (failure.Syntax e) named o missing = absurd o
-called_opening words all path failure.NotBuilt named o missing = absurd o
-called_opening words all path (failure.BadFile p cause) named o missing = absurd o
-called_opening words all path failure.Write named o missing = absurd o
+  -- ---- nothing was written
 
--- what the words ask is what the text of their file asks
-pub asked_text : (words : List (List ℕ)) (all : Contents) (path text : List ℕ) → script_path words ≡ Some path → content all path ≡ Some text → asked words all ≡ asked_by_text text
-asked_text words all path text named holds = ap (by_path all) named ∙ ap (by_file path) holds
+  early_query : (p : Prepared) (f : Failure) → EndedQuery all before p now (Some f) → ((x : Option Failure) → IsCalledFor x (Some f)) → ((ps : List Path) (t : ℕ) (m : List ItemFault) → IsMet ps t m (Some f)) → (quiet → IsDone (Some f)) → ToldQuery all before p now quiet (Some f)
+  early_query p f h called met done = record {
+    ended = h;
+    called = called _;
+    met = λ t tables at has. met _ _ _;
+    complete = λ t tables at has none clean q. done q;
+  }
 
-pub ended_asking : (words : List (List ℕ)) (all : Contents) (before : List ℕ) (now : Option (List ℕ)) (f : Failure) → IsAsking f → now ≡ Some before → Ended words all before now (Some f)
-ended_asking words all before now (failure.Lexer e) o same = same
-ended_asking words all before now (failure.Syntax e) o same = same
-ended_asking words all before now failure.NotBuilt o same = same
-ended_asking words all before now failure.NoMemory o same = inl same
-ended_asking words all before now failure.Words o same = absurd o
-ended_asking words all before now (failure.Missing p) o same = absurd o
-ended_asking words all before now (failure.BadFile p cause) o same = absurd o
-ended_asking words all before now failure.Read o same = absurd o
-ended_asking words all before now failure.Write o same = absurd o
+  early : (o : Result Ready Failure) (f : Failure) → now ≡ Some before → ((p : Prepared) → EndedQuery all before p now (Some f)) → ((x : Option Failure) → IsCalledFor x (Some f)) → ((ps : List Path) (t : ℕ) (m : List ItemFault) → IsMet ps t m (Some f)) → (quiet → IsDone (Some f)) → Told all before o now quiet (Some f)
+  early (Ok (request.Query, p)) f h ended called met done = told_query p (Some f) (early_query p f (ended p) called met done)
+  early (Ok (request.Explain n, p)) f h ended called met done = told_of_explain n p (Some f) (none_written before (text_of p) now h) (called None) done
+  early (Err refusal) f h ended called met done = record {
+    ended = h;
+    called = called (Some refusal);
+    query = λ q e. absurd (subst IsQuery (sym e) tt);
+    explained = λ n q e. absurd (subst IsAnswer (sym e) tt);
+  }
 
-called_error : (words : List (List ℕ)) (all : Contents) (f : Failure) → asked words all ≡ Err f → Some f ≡ refused words all
-called_error words all f ask = sym (ap (by_asked all) ask)
+  -- a file failed, or there was no memory
+  told_read : (o : Result Ready Failure) → now ≡ Some before → ¬ quiet → Told all before o now quiet (Some failure.Read)
+  told_read o h loud = early o failure.Read h (λ p. inl h) (λ x. tt) (λ ps t m. tt) (λ q. absurd (loud q))
 
-pub called_asking : (words : List (List ℕ)) (all : Contents) (f : Failure) → IsAsking f → OrMemory {A = Query} (Err f) (asked words all) → IsCalledFor (refused words all) (Some f)
-called_asking words all (failure.Lexer e) o ask = called_error words all (failure.Lexer e) ask
-called_asking words all (failure.Syntax e) o ask = called_error words all (failure.Syntax e) ask
-called_asking words all failure.NotBuilt o ask = called_error words all failure.NotBuilt ask
-called_asking words all failure.NoMemory o ask = tt
-called_asking words all failure.Words o ask = absurd o
-called_asking words all (failure.Missing p) o ask = absurd o
-called_asking words all (failure.BadFile p cause) o ask = absurd o
-called_asking words all failure.Read o ask = absurd o
-called_asking words all failure.Write o ask = absurd o
+  told_memory : (o : Result Ready Failure) → now ≡ Some before → Told all before o now quiet (Some failure.NoMemory)
+  told_memory o h = early o failure.NoMemory h (λ p. inl h) (λ x. tt) (λ ps t m. tt) (λ q. tt)
 
--- refused words
-pub called_words : (words : List (List ℕ)) (all : Contents) → script_path words ≡ None → Some failure.Words ≡ refused words all
-called_words words all none = sym (ap (λ (o : Option (List ℕ)). by_asked all (by_path all o)) none)
+  -- what is asked is refused
+  told_refusal : (f : Failure) → now ≡ Some before → IsCalledFor (Some f) (Some f) → Told all before (Err f) now quiet (Some f)
+  told_refusal f h called = record {
+    ended = h;
+    called = called;
+    query = λ q e. absurd (subst IsQuery (sym e) tt);
+    explained = λ n q e. absurd (subst IsAnswer (sym e) tt);
+  }
 
--- where no count rose
-pub exact_by : (refusal failed : Option Failure) (Faults Writes : Type 0) → IsCalledFor refusal failed → (failed ≡ Some failure.Read → Faults) → (failed ≡ Some failure.Write → Writes)
-    → ¬ Faults → ¬ Writes → (failed ≡ refusal) ⊎ (failed ≡ Some failure.NoMemory)
-exact_by refusal (Some failure.Read) F W called read write f w = absurd (f (read refl))
-exact_by refusal (Some failure.Write) F W called read write f w = absurd (w (write refl))
-exact_by refusal (Some failure.NoMemory) F W called read write f w = inr refl
-exact_by refusal None F W called read write f w = inl called
-exact_by refusal (Some failure.Words) F W called read write f w = inl called
-exact_by refusal (Some (failure.Lexer e)) F W called read write f w = inl called
-exact_by refusal (Some (failure.Syntax e)) F W called read write f w = inl called
-exact_by refusal (Some failure.NotBuilt) F W called read write f w = inl called
-exact_by refusal (Some (failure.Missing p)) F W called read write f w = inl called
-exact_by refusal (Some (failure.BadFile p cause)) F W called read write f w = inl called
+  pub told_words : (o : Result Ready Failure) → now ≡ Some before → o ≡ Err failure.Words → Told all before o now quiet (Some failure.Words)
+  told_words o h e = subst (λ (x : Result Ready Failure). Told all before x now quiet (Some failure.Words)) (sym e) (told_refusal failure.Words h refl)
+
+  -- a script that isn't prepared
+  refused_by : (r : Request) (o : Result Prepared Failure) (f : Failure) → now ≡ Some before → IsCalledFor (Some f) (Some f) → o ≡ Err f → Told all before (followed o (ready r)) now quiet (Some f)
+  refused_by r o f h called e = subst (λ (x : Result Prepared Failure). Told all before (followed x (ready r)) now quiet (Some f)) (sym e) (told_refusal f h called)
+
+  pub told_unprepared : (r : Request) (o : Result Prepared Failure) (f : Failure) → now ≡ Some before → Answers {A = Prepared} (Err f) o → IsPreparing f → (f ≡ failure.Read → ¬ quiet) → Told all before (followed o (ready r)) now quiet (Some f)
+  told_unprepared r o failure.Read h a is loud = told_read (followed o (ready r)) h (loud refl)
+  told_unprepared r o failure.NoMemory h a is loud = told_memory (followed o (ready r)) h
+  told_unprepared r o (failure.Lexer e) h a is loud = refused_by r o (failure.Lexer e) h refl a
+  told_unprepared r o (failure.Syntax e) h a is loud = refused_by r o (failure.Syntax e) h refl a
+  told_unprepared r o (failure.Binder e) h a is loud = refused_by r o (failure.Binder e) h refl a
+  told_unprepared r o failure.NotBuilt h a is loud = refused_by r o failure.NotBuilt h refl a
+  told_unprepared r o (failure.Missing q) h a is loud = refused_by r o (failure.Missing q) h refl a
+  told_unprepared r o failure.Words h a is loud = absurd is
+  told_unprepared r o (failure.TooManySources n) h a is loud = absurd is
+  told_unprepared r o (failure.BadFile q c) h a is loud = absurd is
+  told_unprepared r o failure.Write h a is loud = absurd is
+  told_unprepared r o (failure.Evaluation e) h a is loud = absurd is
+
+  -- a script that isn't read
+  unread : (r : Request) (path : Path) (q : Path) → now ≡ Some before → q ≡ path → content all path ≡ None → Told all before (by_text all r path (content all path)) now quiet (Some (failure.Missing q))
+  unread r path q h e none =
+      subst (λ (o : Option (List ℕ)). Told all before (by_text all r path o) now quiet (Some (failure.Missing q))) (sym none)
+      (subst (λ (x : Path). Told all before (by_text all r path None) now quiet (Some (failure.Missing x))) (sym e) (told_refusal (failure.Missing path) h refl))
+
+  pub told_unread : (r : Request) (path : Path) (f : Failure) → now ≡ Some before → IsOpening f → ((q : Path) → f ≡ failure.Missing q → q ≡ path) → ((q : Path) → f ≡ failure.Missing q → content all path ≡ None) → (f ≡ failure.Read → ¬ quiet)
+      → Told all before (by_text all r path (content all path)) now quiet (Some f)
+  told_unread r path (failure.Missing q) h is same absent loud = unread r path q h (same q refl) (absent q refl)
+  told_unread r path failure.Read h is same absent loud = told_read (by_text all r path (content all path)) h (loud refl)
+  told_unread r path failure.NoMemory h is same absent loud = told_memory (by_text all r path (content all path)) h
+  told_unread r path failure.Words h is same absent loud = absurd is
+  told_unread r path (failure.Lexer e) h is same absent loud = absurd is
+  told_unread r path (failure.Syntax e) h is same absent loud = absurd is
+  told_unread r path (failure.Binder e) h is same absent loud = absurd is
+  told_unread r path failure.NotBuilt h is same absent loud = absurd is
+  told_unread r path (failure.TooManySources n) h is same absent loud = absurd is
+  told_unread r path (failure.BadFile q c) h is same absent loud = absurd is
+  told_unread r path failure.Write h is same absent loud = absurd is
+  told_unread r path (failure.Evaluation e) h is same absent loud = absurd is
+
+-- what is told holds of a longer time too
+pub told_longer : (all : Contents) (before : List ℕ) (o : Result Ready Failure) (now : Option (List ℕ)) (quiet long : Type 0) (f : Option Failure) → (long → quiet) → Told all before o now quiet f → Told all before o now long f
+told_longer all before o now quiet long f shorter h = record {
+  ended = h.ended;
+  called = h.called;
+  query = λ p e. record {
+    ended = (h.query p e).ended;
+    called = (h.query p e).called;
+    met = (h.query p e).met;
+    complete = λ t tables at has none clean q. (h.query p e).complete t tables at has none clean (shorter q);
+  };
+  explained = λ n p e q. h.explained n p e (shorter q);
+}
+
+pub told_query_at : (all : Contents) (before : List ℕ) (now : Option (List ℕ)) (quiet : Type 0) (r : Request) (p : Prepared) (f : Option Failure) → r ≡ request.Query → ToldQuery all before p now quiet f → Told all before (Ok (r, p)) now quiet f
+told_query_at all before now quiet r p f e h = subst (λ (x : Request). Told all before (Ok (x, p)) now quiet f) (sym e) (told_query all before now quiet p f h)
+
+-- what is told over a prepared script
+pub told_prepared : (all : Contents) (before : List ℕ) (now : Option (List ℕ)) (quiet long : Type 0) (r : Request) (o : Result Prepared Failure) (p : Prepared) (f : Option Failure) → o ≡ Ok p → (long → quiet)
+    → Told all before (Ok (r, p)) now quiet f → Told all before (followed o (ready r)) now long f
+told_prepared all before now quiet long r o p f e shorter h =
+    subst (λ (x : Result Prepared Failure). Told all before (followed x (ready r)) now long f) (sym e) (told_longer all before (Ok (r, p)) now quiet long f shorter h)
+
+-- what is told over the text of a script that was read
+pub told_of_text : (all : Contents) (before : List ℕ) (now : Option (List ℕ)) (quiet long : Type 0) (r : Request) (path text : List ℕ) (f : Option Failure) → content all path ≡ Some text → (long → quiet)
+    → Told all before (by_script all r text) now quiet f → Told all before (by_text all r path (content all path)) now long f
+told_of_text all before now quiet long r path text f e shorter h =
+    subst (λ (x : Option (List ℕ)). Told all before (by_text all r path x) now long f) (sym e) (told_longer all before (by_script all r text) now quiet long f shorter h)
+
+-- what is told of the request that the words make
+pub told_at : (all : Contents) (before : List ℕ) (now : Option (List ℕ)) (quiet : Type 0) (words : List (List ℕ)) (wanted : Wanted) (f : Option Failure) → request_of words ≡ Some wanted
+    → Told all before (by_words all (Some wanted)) now quiet f → Told all before (asked words all) now quiet f
+told_at all before now quiet words wanted f e h = subst (λ (x : Option Wanted). Told all before (by_words all x) now quiet f) (sym e) h
+
+-- a shorter time is as quiet
+pub quieter : (first files files_now sink sink_now : ℕ) → first ≤ files → Quiet first files_now sink sink_now → Quiet files files_now sink sink_now
+quieter first files files_now sink sink_now h q = ((λ (r : Rose files files_now). q.0 (rose_since first files files_now h r)), q.1)
+
+-- where no count rose, the refusal that is called for comes, or want of memory
+pub exact_of : (called : Option Failure) (f refusal : Failure) (quiet : Type 0) → IsCalledFor called (Some f) → called ≡ Some refusal → (f ≡ failure.Read → ¬ quiet) → (f ≡ failure.Write → ¬ quiet) → quiet
+    → (Some f ≡ Some refusal) ⊎ (Some f ≡ Some failure.NoMemory)
+exact_of called failure.Read refusal quiet c e read write q = absurd (read refl q)
+exact_of called failure.Write refusal quiet c e read write q = absurd (write refl q)
+exact_of called failure.NoMemory refusal quiet c e read write q = inr refl
+exact_of called (failure.BadFile p cause) refusal quiet c e read write q = (let z : None ≡ Some refusal = sym c ∙ e in cc)
+exact_of called (failure.Evaluation fault) refusal quiet c e read write q = (let z : None ≡ Some refusal = sym c ∙ e in cc)
+exact_of called failure.Words refusal quiet c e read write q = inl (c ∙ e)
+exact_of called (failure.Lexer r) refusal quiet c e read write q = inl (c ∙ e)
+exact_of called (failure.Syntax r) refusal quiet c e read write q = inl (c ∙ e)
+exact_of called (failure.Binder r) refusal quiet c e read write q = inl (c ∙ e)
+exact_of called failure.NotBuilt refusal quiet c e read write q = inl (c ∙ e)
+exact_of called (failure.TooManySources n) refusal quiet c e read write q = inl (c ∙ e)
+exact_of called (failure.Missing p) refusal quiet c e read write q = inl (c ∙ e)

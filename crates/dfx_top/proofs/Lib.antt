@@ -1,6 +1,4 @@
 pub mod FaultSteps
-pub mod QuerySteps
-pub mod ScriptSteps
-pub mod RunSteps
-pub mod RunEnds
+pub mod WordSteps
+pub mod QueryEnds
 pub mod CommandEnds

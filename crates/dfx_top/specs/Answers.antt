@@ -1,82 +1,70 @@
--- Meaning: what a command wrote, by how it ended. `all` are the contents of the files, `before` and `now` what the sink
--- had taken at the call and at its end.
-use Rattle.std.specs.Prelude.{ℕ, ◌≡◌, ◌⊎◌, ◌++◌, List, map, Option, Some, None, Result, Ok, Err}
+-- Meaning: what a command wrote, by what was asked and how it ended. `all` are the contents of the files, `before` and `now` what the
+-- sink had taken at the call and at its end.
+use Rattle.std.specs.Prelude.{ℕ, ◌≡◌, ◌⊎◌, ◌++◌, List, Option, Some, None, Result, Ok, Err}
 use Rattle.dfx_outside.specs.Bytes.{EndsInFront}
-use Rattle.dfx_outside.specs.Contents.{Contents, content}
-use Rattle.dfx_value.specs.declared.value.Value.{Value as Cell}
-use Rattle.csv_source.specs.CsvItems.{Item, csv_items}
+use Rattle.dfx_outside.specs.Contents.{Contents}
+use Rattle.dfx_value.specs.declared.fault.ItemFault.TheVariants.{Evaluation}
 use Rattle.csv_source.specs.declared.refused.CsvRefused.{CsvRefused}
 use Rattle.run_journal.specs.declared.cause.Cause.{Cause}
-use Rattle.result_text.specs.AnswerText.{header_line, answer_text, picked}
-use Rattle.dfx_top.specs.Failures.{cause_of}
-use Rattle.dfx_top.specs.Queries.{Query}
-use Rattle.dfx_top.specs.Asked.{asked}
-use Rattle.dfx_top.specs.Runs.{WroteAll, WroteBefore}
-use Rattle.dfx_top.specs.declared.failure.Failure.{Failure}
-use Rattle.dfx_top.specs.declared.failure.Failure.TheVariants as failure
+use Rattle.dfx_prepare.specs.PlanText.{plan_text}
+use Rattle.dfx_prepare.specs.Preparing.{Path}
+use Rattle.dfx_prepare.specs.declared.failure.Failure.{Failure}
+use Rattle.dfx_prepare.specs.declared.failure.Failure.TheVariants as failure
+use Rattle.dfx_prepare.specs.declared.prepared.Prepared.{Prepared}
+use Rattle.scan_run.specs.Chains.{Scanned, scanned}
+use Rattle.scan_run.specs.Sources.{fault_of}
+use Rattle.scan_run.specs.Outcomes.{Asked as Run, Answered, Stopped, Began}
+use Rattle.dfx_top.specs.Asked.{Ready, asked, scan_paths, path_at}
+use Rattle.dfx_top.specs.Causes.{cause_of}
+use Rattle.dfx_top.specs.declared.words.Request.TheVariants as request
 
--- the whole answer was written: the names, and the selected cells of all rows, none of which is refused
-pub record Answered (all : Contents) (before : List ℕ) (q : Query) (now : Option (List ℕ)) : Type 0 where
-  pub bytes : List ℕ
-  pub content_is : content all q.path ≡ Some bytes
-  pub wrote : WroteAll q.columns (csv_items bytes q.kinds) (before ++ header_line q.names) now
+-- ---- queries
 
--- a record is refused: the names and the selected cells of the rows before the refused record's batch were written
-pub record Stopped (all : Contents) (before : List ℕ) (q : Query) (refusal : CsvRefused) (now : Option (List ℕ)) : Type 0 where
-  pub bytes : List ℕ
-  pub content_is : content all q.path ≡ Some bytes
-  pub wrote : WroteBefore q.columns (csv_items bytes q.kinds) (before ++ header_line q.names) refusal now
+-- the run of a prepared query over its Scan
+abbrev pub run_of : Contents → List ℕ → Prepared → Scanned → Run
+run_of all before p s = record { query = p.query; scan = s; paths = scan_paths p; all = all; before = before }
 
--- so with some refusal that is this cause
-abbrev pub StoppedBy : Contents → List ℕ → Query → Cause → Option (List ℕ) → Type 0
-StoppedBy all before q cause now = (e : CsvRefused) × ((cause ≡ cause_of e) × Stopped all before q e now)
+-- what holds of that run
+abbrev pub OfRun : Contents → List ℕ → Prepared → (Run → Type 0) → Type 0
+OfRun all before p P = (s : Scanned) × ((scanned p.query.body ≡ Some s) × P (run_of all before p s))
 
--- a beginning of the text of the names and of the selected cells of some first rows was written
-pub record WroteFirst (names : List (List ℕ)) (columns : List ℕ) (items : List Item) (before : List ℕ) (now : Option (List ℕ)) : Type 0 where
-  pub rows : List (List Cell)
-  pub rest : List Item
-  pub is : items ≡ map Ok rows ++ rest
-  pub written : EndsInFront before (answer_text names (map (picked columns) rows)) now
-
-pub record Began (all : Contents) (before : List ℕ) (q : Query) (now : Option (List ℕ)) : Type 0 where
-  pub bytes : List ℕ
-  pub content_is : content all q.path ≡ Some bytes
-  pub wrote : WroteFirst q.names q.columns (csv_items bytes q.kinds) before now
+-- a record of the file at this path is refused, for this cause
+abbrev pub StoppedBy : Run → Path → Cause → Option (List ℕ) → Type 0
+StoppedBy run path cause now = (file : ℕ) × ((e : CsvRefused) × ((path ≡ path_at run.paths file) × ((cause ≡ cause_of file e) × Stopped run file (fault_of run.scan.table file e) now)))
 
 -- nothing was written, or the answer was begun
-abbrev pub Partly : Contents → List ℕ → Query → Option (List ℕ) → Type 0
-Partly all before q now = (now ≡ Some before) ⊎ Began all before q now
+abbrev pub Partly : Contents → List ℕ → Prepared → Option (List ℕ) → Type 0
+Partly all before p now = (now ≡ Some before) ⊎ OfRun all before p (λ run. Began run now)
 
--- how the run of a query ended
-abbrev pub Ran : {A : Type 0} → Contents → List ℕ → Query → Option (List ℕ) → Result A Failure → Type 0
-Ran all before q now (Ok done) = Answered all before q now
-Ran all before q now (Err (failure.Missing path)) = (path ≡ q.path) × (content all q.path ≡ None) × (now ≡ Some before)
-Ran all before q now (Err (failure.BadFile path cause)) = (path ≡ q.path) × StoppedBy all before q cause now
-Ran all before q now (Err failure.Words) = ⊥
-Ran all before q now (Err (failure.Lexer refused)) = ⊥
-Ran all before q now (Err (failure.Syntax refused)) = ⊥
-Ran all before q now (Err failure.NotBuilt) = ⊥
-Ran all before q now (Err failure.Read) = Partly all before q now
-Ran all before q now (Err failure.Write) = Partly all before q now
-Ran all before q now (Err failure.NoMemory) = Partly all before q now
+abbrev pub EndedQuery : Contents → List ℕ → Prepared → Option (List ℕ) → Option Failure → Type 0
+EndedQuery all before p now None = OfRun all before p (λ run. Answered run now)
+EndedQuery all before p now (Some (failure.BadFile path cause)) = OfRun all before p (λ run. StoppedBy run path cause now)
+EndedQuery all before p now (Some (failure.Evaluation f)) = OfRun all before p (λ run. (file : ℕ) × Stopped run file (Evaluation f) now)
+EndedQuery all before p now (Some failure.Read) = Partly all before p now
+EndedQuery all before p now (Some failure.Write) = Partly all before p now
+EndedQuery all before p now (Some failure.NoMemory) = Partly all before p now
+EndedQuery all before p now (Some f) = now ≡ Some before
 
--- what holds of the query that the words ask
-abbrev pub OfAsked : List (List ℕ) → Contents → (Query → Type 0) → Type 0
-OfAsked words all P = (q : Query) × ((asked words all ≡ Ok q) × P q)
+-- ---- plans
 
--- nothing was written, or the answer to the query that the words ask was begun
-abbrev pub MayHaveBegun : List (List ℕ) → Contents → List ℕ → Option (List ℕ) → Type 0
-MayHaveBegun words all before now = (now ≡ Some before) ⊎ OfAsked words all (λ q. Began all before q now)
+abbrev pub text_of : Prepared → List ℕ
+text_of p = plan_text p.tables p.plan
 
--- what the command wrote, by how it ended
+-- the plan's text was written, or a beginning of it, which may be nothing
+abbrev pub EndedExplain : List ℕ → Prepared → Option (List ℕ) → Option Failure → Type 0
+EndedExplain before p now None = now ≡ Some (before ++ text_of p)
+EndedExplain before p now (Some f) = EndsInFront before (text_of p) now
+
+-- ---- commands
+
+abbrev pub EndedRequest : Contents → List ℕ → Ready → Option (List ℕ) → Option Failure → Type 0
+EndedRequest all before (request.Query, p) now f = EndedQuery all before p now f
+EndedRequest all before (request.Explain n, p) now f = EndedExplain before p now f
+
+-- where nothing is asked, nothing was written
+abbrev pub EndedOf : Contents → List ℕ → Result Ready Failure → Option (List ℕ) → Option Failure → Type 0
+EndedOf all before (Err refusal) now f = now ≡ Some before
+EndedOf all before (Ok r) now f = EndedRequest all before r now f
+
 abbrev pub Ended : List (List ℕ) → Contents → List ℕ → Option (List ℕ) → Option Failure → Type 0
-Ended words all before now None = OfAsked words all (λ q. Answered all before q now)
-Ended words all before now (Some (failure.BadFile path cause)) = OfAsked words all (λ q. StoppedBy all before q cause now)
-Ended words all before now (Some failure.Read) = MayHaveBegun words all before now
-Ended words all before now (Some failure.Write) = MayHaveBegun words all before now
-Ended words all before now (Some failure.NoMemory) = MayHaveBegun words all before now
-Ended words all before now (Some failure.Words) = now ≡ Some before
-Ended words all before now (Some (failure.Lexer refused)) = now ≡ Some before
-Ended words all before now (Some (failure.Syntax refused)) = now ≡ Some before
-Ended words all before now (Some failure.NotBuilt) = now ≡ Some before
-Ended words all before now (Some (failure.Missing path)) = now ≡ Some before
+Ended words all before now f = EndedOf all before (asked words all) now f

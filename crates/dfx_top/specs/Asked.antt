@@ -1,67 +1,91 @@
--- Meaning: what the words and the files ask for, or the first refusal in its order: the words, the script's file, its
--- tokens, its grammar, what is built, the table's file, and its records. `all` are the contents of the files.
-use Rattle.std.specs.Prelude.{ℕ, List, [], ◌∷◌, Option, Some, None, option_map, Result, Ok, Err}
+-- Meaning: what the words and the files ask for, or the first refusal in its order: the words, the script's file, what the script is
+-- prepared to, what is built, the number of files, and their presence. `all` are the contents of the files.
+use Rattle.std.specs.Prelude.{ℕ, Bool, true, false, ◌&&◌, ◌==◌, nat_lt, List, [], ◌∷◌, length, slice_get, unwrap_or, Option, Some, None, Result, Ok, Err, if◌then◌else◌}
 use Rattle.dfx_outside.specs.Contents.{Contents, content}
-use Rattle.csv_source.specs.CsvItems.{Item, csv_items}
-use Rattle.csv_source.specs.declared.refused.CsvRefused.{CsvRefused}
-use Rattle.sql_lexer.specs.Tokens.{Tokens}
-use Rattle.sql_lexer.specs.declared.token.Token.{Token}
-use Rattle.sql_lexer.specs.declared.refused.LexRefused.{LexRefused}
-use Rattle.sql_parser.specs.Parsed.{parsed}
-use Rattle.sql_parser.specs.declared.ast.Script.{Script}
-use Rattle.sql_parser.specs.declared.refused.SyntaxRefused.{SyntaxRefused}
-use Rattle.dfx_top.specs.Failures.{cause_of}
-use Rattle.dfx_top.specs.Queries.{Query, query}
-use Rattle.dfx_top.specs.Words.{script_path}
-use Rattle.dfx_top.specs.declared.failure.Failure.{Failure}
-use Rattle.dfx_top.specs.declared.failure.Failure.TheVariants as failure
+use Rattle.logical_plan.specs.declared.query.Query.{Query}
+use Rattle.dfx_prepare.specs.Preparing.{Path, followed, prepared}
+use Rattle.dfx_prepare.specs.declared.failure.Failure.{Failure}
+use Rattle.dfx_prepare.specs.declared.failure.Failure.TheVariants as failure
+use Rattle.dfx_prepare.specs.declared.prepared.Prepared.{Prepared}
+use Rattle.scan_run.specs.Chains.{Scanned, scanned, is_chain, has_sound_kinds}
+use Rattle.scan_run.specs.Sources.{missing}
+use Rattle.dfx_top.specs.Words.{request_of, default_partitions, Asked as Wanted}
+use Rattle.dfx_top.specs.declared.words.Request.{Request}
+use Rattle.dfx_top.specs.declared.words.Request.TheVariants as request
 
-abbrev pub by_query : Option Query → Result Query Failure
-by_query None = Err failure.NotBuilt
-by_query (Some q) = Ok q
+abbrev pub partitions_for : Request → ℕ
+partitions_for request.Query = default_partitions
+partitions_for (request.Explain n) = n
 
-abbrev pub by_tree : Result Script SyntaxRefused → Result Query Failure
-by_tree (Err refused) = Err (failure.Syntax refused)
-by_tree (Ok script) = by_query (query script)
+abbrev pub Ready : Type 0
+Ready = Request × Prepared
 
-abbrev pub by_tokens : List ℕ → Result (List Token) LexRefused → Result Query Failure
-by_tokens text (Err refused) = Err (failure.Lexer refused)
-by_tokens text (Ok tokens) = by_tree (parsed text tokens)
+abbrev pub ready : Request → Prepared → Result Ready Failure
+ready r p = Ok (r, p)
 
--- the query that the text of a script asks
-unfoldable pub asked_by_text : List ℕ → Result Query Failure
-asked_by_text text = by_tokens text (Tokens text)
+-- a request over the text of its script
+abbrev pub by_script : Contents → Request → List ℕ → Result Ready Failure
+by_script all r text = followed (prepared text all (partitions_for r)) (ready r)
 
-abbrev pub by_file : List ℕ → Option (List ℕ) → Result Query Failure
-by_file path None = Err (failure.Missing path)
-by_file path (Some text) = asked_by_text text
+abbrev pub by_text : Contents → Request → Path → Option (List ℕ) → Result Ready Failure
+by_text all r path None = Err (failure.Missing path)
+by_text all r path (Some text) = by_script all r text
 
-abbrev pub by_path : Contents → Option (List ℕ) → Result Query Failure
-by_path all None = Err failure.Words
-by_path all (Some path) = by_file path (content all path)
+abbrev pub by_words : Contents → Option Wanted → Result Ready Failure
+by_words all None = Err failure.Words
+by_words all (Some (r, path)) = by_text all r path (content all path)
 
--- the query that the words ask
-abbrev pub asked : List (List ℕ) → Contents → Result Query Failure
-asked words all = by_path all (script_path words)
+-- the request of the words, and what its script is prepared to
+abbrev pub asked : List (List ℕ) → Contents → Result Ready Failure
+asked words all = by_words all (request_of words)
 
--- the refusal among a file's items, if so
-abbrev pub refusal_of : List Item → Option CsvRefused
-refusal_of [] = None
-refusal_of (Ok row ∷ items) = refusal_of items
-refusal_of (Err e ∷ items) = Some e
+-- ---- queries
 
-abbrev pub by_table : Query → Option (List ℕ) → Option Failure
-by_table q None = Some (failure.Missing q.path)
-by_table q (Some bytes) = option_map (λ e. failure.BadFile q.path (cause_of e)) (refusal_of (csv_items bytes q.kinds))
+abbrev pub is_empty : {A : Type 0} → List A → Bool
+is_empty [] = true
+is_empty (x ∷ xs) = false
 
--- why a query has no answer, if so
-abbrev pub refused_query : Contents → Query → Option Failure
-refused_query all q = by_table q (content all q.path)
+abbrev pub is_none : {A : Type 0} → Option A → Bool
+is_none None = true
+is_none (Some x) = false
 
-abbrev pub by_asked : Contents → Result Query Failure → Option Failure
+-- the queries that are run: Filters and Projects over one Scan, all rows in any order
+abbrev pub is_built : Query → Bool
+is_built q = is_chain q.body && (has_sound_kinds (scanned q.body) && (is_empty q.order && (q.offset == 0 && is_none q.limit)))
+
+abbrev pub paths_for : Prepared → Option Scanned → List Path
+paths_for p None = []
+paths_for p (Some s) = unwrap_or (slice_get p.paths s.table) []
+
+-- the files of the table that a query scans
+abbrev pub scan_paths : Prepared → List Path
+scan_paths p = paths_for p (scanned p.query.body)
+
+abbrev pub path_at : List Path → ℕ → Path
+path_at paths file = unwrap_or (slice_get paths file) []
+
+abbrev pub by_missing : List Path → Option ℕ → Option Failure
+by_missing paths None = None
+by_missing paths (Some file) = Some (failure.Missing (path_at paths file))
+
+-- at most 512 files are read
+abbrev pub by_count : Contents → List Path → Option Failure
+by_count all paths = if nat_lt 512 (length paths) then Some (failure.TooManySources (length paths)) else by_missing paths (missing all paths)
+
+-- why a prepared query isn't run, if so
+unfoldable pub not_run : Contents → Prepared → Option Failure
+not_run all p = if is_built p.query then by_count all (scan_paths p) else Some failure.NotBuilt
+
+-- ---- refusals before anything is written
+
+abbrev pub by_request : Contents → Ready → Option Failure
+by_request all (request.Query, p) = not_run all p
+by_request all (request.Explain n, p) = None
+
+abbrev pub by_asked : Contents → Result Ready Failure → Option Failure
 by_asked all (Err f) = Some f
-by_asked all (Ok q) = refused_query all q
+by_asked all (Ok r) = by_request all r
 
--- why the words have no answer, if so
+-- why nothing is written, if so
 abbrev pub refused : List (List ℕ) → Contents → Option Failure
 refused words all = by_asked all (asked words all)

@@ -1,8 +1,6 @@
 pub mod Words
-pub mod Failures
-pub mod Outcomes
-pub mod Queries
-pub mod Found
-pub mod Runs
+pub mod Causes
 pub mod Asked
 pub mod Answers
+pub mod Outcomes
+pub mod Told

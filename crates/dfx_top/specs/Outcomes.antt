@@ -1,64 +1,90 @@
 -- Words: which failures a part of the command answers.
-use Rattle.std.specs.Prelude.{⊤, ℕ, ◌≡◌, List, Option, Some, None, Result, Ok, Err}
+use Rattle.std.specs.Prelude.{⊤, ℕ, ◌≡◌, ◌⊎◌, true, List, [], Option, Some, None, Result, Ok, Err, Contains}
 use Rattle.dfx_outside.specs.Bytes.{EndsInFront}
-use Rattle.dfx_outside.specs.declared.source.OutsideRefused.{OutsideRefused}
-use Rattle.dfx_outside.specs.declared.source.OutsideRefused.TheVariants as outside
+use Rattle.dfx_value.specs.declared.fault.ItemFault.{ItemFault}
+use Rattle.dfx_value.specs.declared.fault.ItemFault.TheVariants.{Evaluation}
 use Rattle.csv_source.specs.declared.refused.CsvRefused.{CsvRefused}
-use Rattle.csv_source.specs.declared.refused.CsvRefused.TheVariants as csv
-use Rattle.dfx_top.specs.Failures.{status_of, failure_line}
-use Rattle.dfx_top.specs.declared.answer.RunRefused.{RunRefused}
-use Rattle.dfx_top.specs.declared.answer.RunRefused.TheVariants as refused
-use Rattle.dfx_top.specs.declared.failure.Failure.{Failure}
-use Rattle.dfx_top.specs.declared.failure.Failure.TheVariants as failure
+use Rattle.logical_plan.specs.declared.query.Query.{Query}
+use Rattle.dfx_prepare.specs.Failures.{status_of, failure_line}
+use Rattle.dfx_prepare.specs.Preparing.{Path}
+use Rattle.dfx_prepare.specs.declared.failure.Failure.{Failure}
+use Rattle.dfx_prepare.specs.declared.failure.Failure.TheVariants as failure
+use Rattle.scan_run.specs.Chains.{scanned, is_chain, AreSound}
+use Rattle.scan_run.specs.Sources.{fault_of}
+use Rattle.scan_run.specs.declared.refused.RunRefused.{RunRefused}
+use Rattle.scan_run.specs.declared.refused.RunRefused.TheVariants as refused
+use Rattle.dfx_top.specs.Asked.{path_at}
+use Rattle.dfx_top.specs.Causes.{cause_of}
+
+-- the parts of a query that is run
+pub record IsBuilt (q : Query) : Type 0 where
+  pub chain : is_chain q.body ≡ true
+  pub sound : AreSound (scanned q.body)
+  pub unordered : q.order ≡ []
+  pub uncut : (q.offset ≡ 0) × (q.limit ≡ None)
 
 -- a file isn't there, failed, or there was no memory
 abbrev pub IsOpening : Failure → Type 0
 IsOpening (failure.Missing path) = ⊤
 IsOpening failure.Read = ⊤
 IsOpening failure.NoMemory = ⊤
-IsOpening failure.Words = ⊥
-IsOpening (failure.Lexer refused) = ⊥
-IsOpening (failure.Syntax refused) = ⊥
-IsOpening failure.NotBuilt = ⊥
-IsOpening (failure.BadFile path cause) = ⊥
-IsOpening failure.Write = ⊥
+IsOpening f = ⊥
 
--- a text asks no query, or there was no memory
-abbrev pub IsAsking : Failure → Type 0
-IsAsking (failure.Lexer refused) = ⊤
-IsAsking (failure.Syntax refused) = ⊤
-IsAsking failure.NotBuilt = ⊤
-IsAsking failure.NoMemory = ⊤
-IsAsking failure.Words = ⊥
-IsAsking (failure.Missing path) = ⊥
-IsAsking (failure.BadFile path cause) = ⊥
-IsAsking failure.Read = ⊥
-IsAsking failure.Write = ⊥
-
--- a file is refused, an object failed, or there was no memory
+-- a run refuses what is asked of it, or a file, or fails, or there was no memory
 abbrev pub IsRunning : Failure → Type 0
+IsRunning failure.NotBuilt = ⊤
+IsRunning (failure.TooManySources sources) = ⊤
+IsRunning (failure.Missing path) = ⊤
 IsRunning (failure.BadFile path cause) = ⊤
+IsRunning (failure.Evaluation f) = ⊤
 IsRunning failure.Read = ⊤
 IsRunning failure.Write = ⊤
 IsRunning failure.NoMemory = ⊤
-IsRunning (failure.Missing path) = ⊥
-IsRunning failure.Words = ⊥
-IsRunning (failure.Lexer refused) = ⊥
-IsRunning (failure.Syntax refused) = ⊥
-IsRunning failure.NotBuilt = ⊥
+IsRunning f = ⊥
 
--- this is answered, or want of memory
-abbrev pub OrMemory : {A : Type 0} → Result A Failure → Result A Failure → Type 0
-OrMemory (Ok v) expected = expected ≡ Ok v
-OrMemory (Err failure.NoMemory) expected = ⊤
-OrMemory (Err f) expected = expected ≡ Err f
+-- the sink failed, or there was no memory
+abbrev pub IsWriting : Failure → Type 0
+IsWriting failure.Write = ⊤
+IsWriting failure.NoMemory = ⊤
+IsWriting f = ⊥
 
--- the failure is the refusal that is called for, none where none is, or an object failed, or there was no memory
+-- nothing was written yet
+abbrev pub IsEarly : Failure → Type 0
+IsEarly failure.Write = ⊥
+IsEarly (failure.BadFile path cause) = ⊥
+IsEarly (failure.Evaluation f) = ⊥
+IsEarly f = ⊤
+
+-- the failure of a refused run over files at these paths, but for want of memory
+abbrev pub FailureOf : List Path → RunRefused → Failure → Type 0
+FailureOf paths (refused.Missing file) f = (f ≡ failure.Missing (path_at paths file)) ⊎ (f ≡ failure.NoMemory)
+FailureOf paths (refused.Bad file e) f = (f ≡ failure.BadFile (path_at paths file) (cause_of file e)) ⊎ (f ≡ failure.NoMemory)
+FailureOf paths (refused.Evaluation fault) f = f ≡ failure.Evaluation fault
+FailureOf paths refused.Read f = f ≡ failure.Read
+FailureOf paths refused.Write f = f ≡ failure.Write
+FailureOf paths refused.NoMemory f = f ≡ failure.NoMemory
+
+-- the failure is the refusal that is called for, none where none is, or an object failed, or there was no memory; only where no
+-- refusal is called for may a file or a value be refused
 abbrev pub IsCalledFor : Option Failure → Option Failure → Type 0
 IsCalledFor refusal (Some failure.Read) = ⊤
 IsCalledFor refusal (Some failure.Write) = ⊤
 IsCalledFor refusal (Some failure.NoMemory) = ⊤
+IsCalledFor refusal (Some (failure.BadFile path cause)) = refusal ≡ None
+IsCalledFor refusal (Some (failure.Evaluation f)) = refusal ≡ None
 IsCalledFor refusal f = f ≡ refusal
+
+-- a refused record or value is among the faults that are met; the table has its files at these paths
+abbrev pub IsMet : List Path → ℕ → List ItemFault → Option Failure → Type 0
+IsMet paths table met (Some (failure.BadFile path cause)) = (file : ℕ) × ((e : CsvRefused) × ((path ≡ path_at paths file) × ((cause ≡ cause_of file e) × Contains met (fault_of table file e))))
+IsMet paths table met (Some (failure.Evaluation f)) = Contains met (Evaluation f)
+IsMet paths table met f = ⊤
+
+-- an answer, or want of memory
+abbrev pub IsDone : Option Failure → Type 0
+IsDone None = ⊤
+IsDone (Some failure.NoMemory) = ⊤
+IsDone (Some f) = ⊥
 
 -- the failure of a result
 abbrev pub of_result : {A : Type 0} → Result A Failure → Option Failure
@@ -74,14 +100,3 @@ status_for (Some f) = status_of f
 abbrev pub IsLine : Option Failure → List ℕ → Option (List ℕ) → Type 0
 IsLine None before now = now ≡ Some before
 IsLine (Some f) before now = EndsInFront before (failure_line f) now
-
--- what a refused scan means for the run
-abbrev pub of_scan : CsvRefused → RunRefused
-of_scan csv.Read = refused.Read
-of_scan csv.NoMemory = refused.NoMemory
-of_scan e = refused.Bad e
-
--- what a refused write means for the run
-abbrev pub of_sink : OutsideRefused → RunRefused
-of_sink outside.Failed = refused.Write
-of_sink outside.NoMemory = refused.NoMemory

@@ -1,21 +1,28 @@
 //! The command.
 
-ghost use Rattle.std.specs.Prelude.{◌≡◌, ◌⊎◌, ℕ, List, Err, Some, None};
+ghost use Rattle.std.specs.Prelude.{◌≡◌, ◌≤◌, ◌⊎◌, ℕ, List, [], Ok, Err, Some, None, IfErr};
 ghost use Rattle.dfx_outside.specs.Causes.{Rose};
 ghost use Rattle.dfx_outside.specs.Bytes.{EndsInFront};
 ghost use Rattle.dfx_outside.specs.Contents.{Contents};
-ghost use Rattle.dfx_top.specs.Answers.{Ended};
+ghost use Rattle.logical_plan.specs.Body.{Tables, all_faults};
+ghost use Rattle.scan_run.specs.Chains.{Scanned, scanned};
+ghost use Rattle.scan_run.specs.Outcomes.{HasFiles};
+ghost use Rattle.dfx_prepare.specs.declared.failure.Failure.{Failure as Refusal};
+ghost use Rattle.dfx_prepare.specs.declared.failure.Failure.TheVariants as failure;
+ghost use Rattle.dfx_prepare.specs.declared.prepared.Prepared.{Prepared as APrepared};
+ghost use Rattle.dfx_top.specs.Answers.{Ended, run_of};
 ghost use Rattle.dfx_top.specs.Asked as spec;
-ghost use Rattle.dfx_top.specs.Outcomes.{of_result, status_for, IsCalledFor, IsLine};
-ghost use Rattle.dfx_top.specs.Words.{script_path as path_of_words};
-ghost use Rattle.dfx_top.specs.declared.failure.Failure.TheVariants as failure;
+ghost use Rattle.dfx_top.specs.Outcomes.{of_result, status_for, IsCalledFor, IsMet, IsDone, IsRunning, IsLine};
+ghost use Rattle.dfx_top.specs.Told.{Quiet, Told};
+ghost use Rattle.dfx_top.specs.Words.{request_of as request_of_words};
+ghost use Rattle.dfx_top.specs.declared.words.Request.TheVariants as wanted;
 
-use crate::failure::{Failure, failure_line, status_of};
+use crate::explain::explain;
 use crate::files::read_file;
-use crate::run::run_query;
-use crate::script::query_of_text;
-use crate::words::script_path;
+use crate::query::run_query;
+use crate::words::{DEFAULT_PARTITIONS, Request, request_of};
 use dfx_outside::{Files, Sink, write_all};
+use dfx_prepare::{Failure, Prepared, failure_line, prepare, status_of};
 use dfx_value::Text;
 use std::alloc::Global;
 
@@ -30,28 +37,85 @@ pub struct Finished<F, K, E> {
     pub failure: Option<Failure>,
 }
 
-/// Reads the script that the words name, and runs its query.
+/// The number of partitions of a request.
+fn partitions_for(request: Request) -> u32
+    ensures { result ≡ spec.partitions_for request }
+{
+    match request {
+        Request::Query => DEFAULT_PARTITIONS,
+        Request::Explain { partitions } => partitions,
+    }
+}
+
+/// Carries a request out over what its script is prepared to.
+fn answer_prepared<F: Files, K: Sink>(
+    alloc: Global,
+    request: Request,
+    prepared: &Prepared,
+    files: &mut F,
+    sink: &mut K,
+) -> Result<(), Failure>
+    ensures told { (all : Contents) (before : List ℕ) → F.told files.old ≡ Some all → K.told sink.old ≡ Some before → Told all before (Ok (request, prepared.now)) (K.told sink.new) (Quiet (F.faults files.old) (F.faults files.new) (K.faults sink.old) (K.faults sink.new)) (of_result result) }
+
+    ensures read { result ≡ Err failure.Read → Rose (F.faults files.old) (F.faults files.new) }
+    ensures write { result ≡ Err failure.Write → Rose (K.faults sink.old) (K.faults sink.new) }
+    ensures missing { (p : List ℕ) → result ≡ Err (failure.Missing p) → Rose (F.absences files.old) (F.absences files.new) }
+    ensures running { IfErr result IsRunning }
+    ensures same { F.told files.new ≡ F.told files.old }
+    ensures later { (F.faults files.old ≤ F.faults files.new) × (F.absences files.old ≤ F.absences files.new) × (K.faults sink.old ≤ K.faults sink.new) }
+{
+    match request {
+        Request::Query => run_query(alloc, prepared, files, sink),
+        Request::Explain { partitions: _ } => explain(alloc, prepared, sink),
+    }
+}
+
+/// Carries a request out over the text of its script.
+#[tactic(auto, using(crate::proofs::FaultSteps::fault_steps))]
+fn answer_text<F: Files, K: Sink>(
+    alloc: Global,
+    request: Request,
+    text: &[u8],
+    files: &mut F,
+    sink: &mut K,
+) -> Result<(), Failure>
+    ensures told { (all : Contents) (before : List ℕ) → F.told files.old ≡ Some all → K.told sink.old ≡ Some before → Told all before (spec.by_script all request text.now) (K.told sink.new) (Quiet (F.faults files.old) (F.faults files.new) (K.faults sink.old) (K.faults sink.new)) (of_result result) }
+
+    ensures read { result ≡ Err failure.Read → Rose (F.faults files.old) (F.faults files.new) }
+    ensures write { result ≡ Err failure.Write → Rose (K.faults sink.old) (K.faults sink.new) }
+    ensures missing { (p : List ℕ) → result ≡ Err (failure.Missing p) → Rose (F.absences files.old) (F.absences files.new) }
+    ensures words { result ≡ Err failure.Words → ⊥ }
+    ensures same { F.told files.new ≡ F.told files.old }
+    ensures later { (F.faults files.old ≤ F.faults files.new) × (F.absences files.old ≤ F.absences files.new) × (K.faults sink.old ≤ K.faults sink.new) }
+{
+    let prepared = prepare(alloc, text, files, partitions_for(request))?;
+    answer_prepared(alloc, request, &prepared, files, sink)
+}
+
+/// Reads the script that the words name, and carries their request out.
+#[tactic(auto, using(crate::proofs::FaultSteps::fault_steps))]
 fn run<F: Files, K: Sink>(
     alloc: Global,
     words: &[Text],
     files: &mut F,
     sink: &mut K,
 ) -> Result<(), Failure>
-    ensures ended { (all : Contents) (before : List ℕ) → F.told files.old ≡ Some all → K.told sink.old ≡ Some before → Ended words.now all before (K.told sink.new) (of_result result) }
-    ensures called { (all : Contents) (before : List ℕ) → F.told files.old ≡ Some all → K.told sink.old ≡ Some before → IsCalledFor (spec.refused words.now all) (of_result result) }
-    ensures words { path_of_words words.now ≡ None → result ≡ Err failure.Words }
-    ensures words_only { result ≡ Err failure.Words → path_of_words words.now ≡ None }
+    ensures told { (all : Contents) (before : List ℕ) → F.told files.old ≡ Some all → K.told sink.old ≡ Some before → Told all before (spec.asked words.now all) (K.told sink.new) (Quiet (F.faults files.old) (F.faults files.new) (K.faults sink.old) (K.faults sink.new)) (of_result result) }
+
+    ensures words { request_of_words words.now ≡ None → result ≡ Err failure.Words }
+    ensures words_only { result ≡ Err failure.Words → request_of_words words.now ≡ None }
     ensures read { result ≡ Err failure.Read → Rose (F.faults files.old) (F.faults files.new) }
     ensures write { result ≡ Err failure.Write → Rose (K.faults sink.old) (K.faults sink.new) }
     ensures missing { (p : List ℕ) → result ≡ Err (failure.Missing p) → Rose (F.absences files.old) (F.absences files.new) }
     ensures same { F.told files.new ≡ F.told files.old }
 {
-    let Some(path) = script_path(words) else {
+    let Some(requested) = request_of(words) else {
         return Err(Failure::Words);
     };
-    let text = read_file(alloc, files, path)?;
-    let query = query_of_text(alloc, &text)?;
-    run_query(alloc, query, files, sink)
+    match read_file(alloc, files, requested.script) {
+        Ok(text) => answer_text(alloc, requested.request, &text, files, sink),
+        Err(failure) => Err(failure),
+    }
 }
 
 /// Writes a line, as far as the sink takes it.
@@ -70,9 +134,9 @@ fn report<E: Sink>(alloc: Global, failure: &Failure, err: &mut E)
     }
 }
 
-/// Runs a command. The words are `query FILE`; the script at that path names one CSV table and selects some of its
-/// columns, which are written to the sink as CSV text. A failure is written to `err` as one line. All that was handed in
-/// comes back, with every file closed.
+/// Runs a command. `query FILE` writes the answer of the script at that path as CSV text, where its query is Filters and Projects over
+/// one Scan of CSV files; `explain FILE`, with `--partitions N` where N isn't 4, writes the text of the query's plan. A failure is
+/// written to `err` as one line. All that was handed in comes back, with every file closed.
 pub fn command_here<F: Files, K: Sink, E: Sink>(
     alloc: Global,
     words: &[Text],
@@ -80,21 +144,37 @@ pub fn command_here<F: Files, K: Sink, E: Sink>(
     mut sink: K,
     mut err: E,
 ) -> Finished<F, K, E>
-    // What was written, by how it ended, where the files and the sink tell their bytes.
+    // Where the files and the sink tell their bytes: what was written, by what the words and the files ask and how it ended.
     ensures ended { (all : Contents) (before : List ℕ) → F.told files ≡ Some all → K.told sink ≡ Some before → Ended words.now all before (K.told result.sink) result.failure }
 
-    // Why it ended so: it fails with the refusal that the words and the files call for, and is answered where they call for
-    // none, unless an object failed or memory was wanting.
+    // Why it ended so: with the refusal that the words and the files call for, unless an object failed or memory was wanting. Where
+    // they call for none there is an answer, or a file or a value is refused.
     ensures called { (all : Contents) (before : List ℕ) → F.told files ≡ Some all → K.told sink ≡ Some before → IsCalledFor (spec.refused words.now all) result.failure }
 
-    // So where neither count of faults rose, that refusal alone or want of memory comes, or the answer where there is none.
+    // A file or a value is refused only where that fault is among those that the query's body meets, over all tables that have the
+    // query's files as the table that it scans.
+    ensures met { (all : Contents) (before : List ℕ) → F.told files ≡ Some all → K.told sink ≡ Some before
+        → (p : APrepared) (scan : Scanned) (tables : Tables) → spec.asked words.now all ≡ Ok (wanted.Query, p) → scanned p.query.body ≡ Some scan
+        → HasFiles (run_of all before p scan) tables → IsMet (spec.scan_paths p) scan.table (all_faults tables p.query.body) result.failure }
+
+    // So where no refusal is called for, the body meets no fault, and neither count of faults rose, there is an answer, or want of memory.
+    ensures complete { (all : Contents) (before : List ℕ) → F.told files ≡ Some all → K.told sink ≡ Some before
+        → (p : APrepared) (scan : Scanned) (tables : Tables) → spec.asked words.now all ≡ Ok (wanted.Query, p) → scanned p.query.body ≡ Some scan
+        → HasFiles (run_of all before p scan) tables → spec.refused words.now all ≡ None → all_faults tables p.query.body ≡ []
+        → Quiet (F.faults files) (F.faults result.files) (K.faults sink) (K.faults result.sink) → IsDone result.failure }
+    ensures explained { (all : Contents) (before : List ℕ) → F.told files ≡ Some all → K.told sink ≡ Some before
+        → (n : ℕ) (p : APrepared) → spec.asked words.now all ≡ Ok (wanted.Explain n, p)
+        → Quiet (F.faults files) (F.faults result.files) (K.faults sink) (K.faults result.sink) → IsDone result.failure }
+
+    // And where a refusal is called for and neither count of faults rose, it comes, or want of memory.
     ensures exact { (all : Contents) (before : List ℕ) → F.told files ≡ Some all → K.told sink ≡ Some before
-        → ¬ (Rose (F.faults files) (F.faults result.files)) → ¬ (Rose (K.faults sink) (K.faults result.sink))
-        → (result.failure ≡ spec.refused words.now all) ⊎ (result.failure ≡ Some failure.NoMemory) }
+        → (refusal : Refusal) → spec.refused words.now all ≡ Some refusal
+        → Quiet (F.faults files) (F.faults result.files) (K.faults sink) (K.faults result.sink)
+        → (result.failure ≡ Some refusal) ⊎ (result.failure ≡ Some failure.NoMemory) }
 
     // Told or not: refused words, exactly; and what failed where an object is said to have failed or to lack a path.
-    ensures words { path_of_words words.now ≡ None → result.failure ≡ Some failure.Words }
-    ensures words_only { result.failure ≡ Some failure.Words → path_of_words words.now ≡ None }
+    ensures words { request_of_words words.now ≡ None → result.failure ≡ Some failure.Words }
+    ensures words_only { result.failure ≡ Some failure.Words → request_of_words words.now ≡ None }
     ensures read { result.failure ≡ Some failure.Read → Rose (F.faults files) (F.faults result.files) }
     ensures write { result.failure ≡ Some failure.Write → Rose (K.faults sink) (K.faults result.sink) }
     ensures missing { (p : List ℕ) → result.failure ≡ Some (failure.Missing p) → Rose (F.absences files) (F.absences result.files) }

@@ -5,10 +5,10 @@ ghost use Rattle.dfx_outside.specs.Causes.{Rose};
 ghost use Rattle.dfx_outside.specs.Contents.{Contents, content, Opens};
 ghost use Rattle.dfx_outside.specs.declared.files.FilesRefused.TheVariants as refusal;
 ghost use Rattle.dfx_top.specs.Outcomes.{IsOpening};
-ghost use Rattle.dfx_top.specs.declared.failure.Failure.TheVariants as failure;
+ghost use Rattle.dfx_prepare.specs.declared.failure.Failure.TheVariants as failure;
 
-use crate::failure::Failure;
 use dfx_outside::{Files, FilesRefused, OutsideRefused, read_all};
+use dfx_prepare::Failure;
 use dfx_value::Text;
 use std::alloc::Global;
 
@@ -29,7 +29,7 @@ fn open_failure(alloc: Global, refused: FilesRefused, path: &Text) -> Failure
 }
 
 /// Opens the file at a path.
-pub fn open_file<F: Files>(alloc: Global, files: &mut F, path: &Text) -> Result<F::One, Failure>
+fn open_file<F: Files>(alloc: Global, files: &mut F, path: &Text) -> Result<F::One, Failure>
     ensures content { (all : Contents) → F.told files.old ≡ Some all → IfOk result (λ one. Opens (content all path.now) (F.One.told one)) }
     ensures fresh { IfOk result (λ one. F.One.faults one ≡ 0) }
     ensures same { F.told files.new ≡ F.told files.old }

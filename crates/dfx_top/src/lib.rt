@@ -1,14 +1,12 @@
 //! The command: from its words and the files to the answer and the status.
 #![tactic(auto)]
 
-mod answer;
+mod causes;
 mod command;
-mod failure;
+mod explain;
 mod files;
 mod query;
-mod run;
-mod script;
 mod words;
 
 pub use command::{Finished, command_here};
-pub use failure::{Failure, fault_text};
+pub use dfx_prepare::{Failure, fault_text};

@@ -1,11 +1,12 @@
 -- Meaning: chains, which are bodies of Filters and Projects over one Scan, and what a chain gives over items of its Scan.
-use Rattle.std.specs.Prelude.{ℕ, ◌≡◌, ◌^◌, ◌<◌, Bool, true, false, Option, Some, None, List, [], length, ⊤}
+use Rattle.std.specs.Prelude.{ℕ, ◌≡◌, ◌^◌, ◌<◌, ◌&&◌, nat_lt, Bool, true, false, Option, Some, None, List, [], length, ⊤}
 use Rattle.dfx_value.specs.Kinds.{are_kinds}
 use Rattle.dfx_value.specs.declared.kind.Kind.{Kind}
 use Rattle.logical_plan.specs.Items.{Item, filter_items, project_items}
 use Rattle.logical_plan.specs.declared.plan.Logical.{Logical}
 use Rattle.logical_plan.specs.declared.plan.Logical.TheOpen.{Logical-F}
 use Rattle.logical_plan.specs.declared.plan.Logical.TheFolds.{fold-Logical}
+use Rattle.scan_run.specs.declared.chain.ChainScan.{ChainScan as Held}
 
 -- the number of a table, and the kinds of its columns
 pub record Scanned : Type 0 where
@@ -29,7 +30,16 @@ is_there (Some x) = true
 abbrev pub is_chain : Logical → Bool
 is_chain q = is_there (scanned q)
 
--- the kinds are kinds, and fewer than 2^32
+-- the same as the code holds it
+abbrev pub viewed : Held → Scanned
+viewed s = record { table = s.table; kinds = s.kinds.now }
+
+-- whether the kinds are kinds, and fewer than 2^32
+abbrev pub has_sound_kinds : Option Scanned → Bool
+has_sound_kinds None = true
+has_sound_kinds (Some s) = nat_lt (length s.kinds) (2 ^ 32) && are_kinds s.kinds
+
+-- so they are
 abbrev pub AreSound : Option Scanned → Type 0
 AreSound None = ⊤
 AreSound (Some s) = (are_kinds s.kinds ≡ true) × (length s.kinds < 2 ^ 32)

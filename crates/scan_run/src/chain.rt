@@ -1,6 +1,6 @@
 //! Chains, and what their Scans read.
 
-ghost use Rattle.std.specs.Prelude.{◌≡◌, ◌↔◌, ◌^◌, ◌<◌, true, length, Some, IfOk, IsTrue, option_map};
+ghost use Rattle.std.specs.Prelude.{◌≡◌, true, Some, IfOk, IsTrue, option_map};
 ghost use Rattle.dfx_value.specs.Kinds as value;
 ghost use Rattle.scan_run.specs.Chains as spec;
 ghost use Rattle.scan_run.specs.Chains.{Scanned};
@@ -10,15 +10,27 @@ use logical_plan::Logical;
 use scalar_exprs::is_kind;
 use std::alloc::Global;
 
-/// Whether a body is Filters and Projects over one Scan.
+/// The one Scan of a chain.
+#[derive(Clone, Copy, Drop)]
+pub struct ChainScan<'a> {
+    /// The number of its table.
+    pub table: u32,
+    /// The kinds of the table's columns.
+    pub kinds: &'a [Kind],
+}
+
+/// The one Scan below a body's Filters and Projects; none where the body has any other node.
 #[tactic(auto, using(crate::proofs::ChainSteps::chains))]
-pub fn is_chain(body: &Logical) -> bool
-    ensures { result ≡ spec.is_chain body.now }
+pub fn chain_scan(body: &Logical) -> Option<ChainScan<'_>>
+    ensures { option_map spec.viewed result ≡ spec.scanned body.now }
 {
     match body {
-        Logical::Scan { table: _, kinds: _ } => true,
-        Logical::Filter { input, test: _ } => is_chain(input.get()),
-        Logical::Project { input, items: _ } => is_chain(input.get()),
+        Logical::Scan { table, kinds } => Some(ChainScan {
+            table: *table,
+            kinds: kinds.as_slice(),
+        }),
+        Logical::Filter { input, test: _ } => chain_scan(input.get()),
+        Logical::Project { input, items: _ } => chain_scan(input.get()),
         Logical::Join {
             kind: _,
             left: _,
@@ -32,7 +44,17 @@ pub fn is_chain(body: &Logical) -> bool
             calls: _,
         }
         | Logical::Distinct { input: _ }
-        | Logical::UnionAll { inputs: _ } => false,
+        | Logical::UnionAll { inputs: _ } => None,
+    }
+}
+
+/// Whether a body is Filters and Projects over one Scan.
+pub fn is_chain(body: &Logical) -> bool
+    ensures { result ≡ spec.is_chain body.now }
+{
+    match chain_scan(body) {
+        Some(_) => true,
+        None => false,
     }
 }
 
@@ -48,55 +70,22 @@ fn are_kinds(kinds: &[Kind]) -> bool
 }
 
 /// Whether the kinds of a chain's Scan are kinds, and fewer than 2^32; true where the body is no chain.
-#[tactic(auto, using(crate::proofs::ChainSteps::chains))]
 pub fn has_sound_kinds(body: &Logical) -> bool
-    ensures { IsTrue result → spec.AreSound (spec.scanned body.now) }
+    ensures value { result ≡ spec.has_sound_kinds (spec.scanned body.now) }
+    ensures sound { IsTrue result → spec.AreSound (spec.scanned body.now) }
 {
-    match body {
-        Logical::Scan { table: _, kinds } => {
-            (kinds.len() as u64) < 1 << 32 && are_kinds(kinds.as_slice())
-        }
-        Logical::Filter { input, test: _ } => has_sound_kinds(input.get()),
-        Logical::Project { input, items: _ } => has_sound_kinds(input.get()),
-        Logical::Join {
-            kind: _,
-            left: _,
-            right: _,
-            keys: _,
-            rest: _,
-        }
-        | Logical::Aggregate {
-            input: _,
-            keys: _,
-            calls: _,
-        }
-        | Logical::Distinct { input: _ }
-        | Logical::UnionAll { inputs: _ } => true,
+    match chain_scan(body) {
+        Some(scan) => (scan.kinds.len() as u64) < 1 << 32 && are_kinds(scan.kinds),
+        None => true,
     }
 }
 
 /// The kinds of a chain's Scan.
-#[tactic(auto, using(crate::proofs::ChainSteps::chains))]
 pub(crate) fn scan_kinds(alloc: Global, body: &Logical) -> Result<Vec<Kind>, NoMemory>
     ensures { (scan : Scanned) → spec.scanned body.now ≡ Some scan → IfOk result (λ kinds. kinds.items ≡ scan.kinds) }
 {
-    match body {
-        Logical::Scan { table: _, kinds } => Ok(Vec::from_slice(alloc, kinds.as_slice())?),
-        Logical::Filter { input, test: _ } => scan_kinds(alloc, input.get()),
-        Logical::Project { input, items: _ } => scan_kinds(alloc, input.get()),
-        Logical::Join {
-            kind: _,
-            left: _,
-            right: _,
-            keys: _,
-            rest: _,
-        }
-        | Logical::Aggregate {
-            input: _,
-            keys: _,
-            calls: _,
-        }
-        | Logical::Distinct { input: _ }
-        | Logical::UnionAll { inputs: _ } => Ok(Vec::new(alloc)),
+    match chain_scan(body) {
+        Some(scan) => Ok(Vec::from_slice(alloc, scan.kinds)?),
+        None => Ok(Vec::new(alloc)),
     }
 }

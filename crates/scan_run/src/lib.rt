@@ -8,6 +8,6 @@ mod pass;
 mod refused;
 mod run;
 
-pub use chain::{has_sound_kinds, is_chain};
+pub use chain::{ChainScan, chain_scan, has_sound_kinds, is_chain};
 pub use refused::RunRefused;
 pub use run::run_chain;
