@@ -14,4 +14,6 @@ mod orders;
 #[cfg(test)]
 mod shown;
 #[cfg(test)]
+mod sides;
+#[cfg(test)]
 mod tables;

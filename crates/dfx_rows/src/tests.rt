@@ -720,6 +720,47 @@ fn explains(rt: HostRuntime) -> Result<(), Fail> {
 }
 
 #[test]
+fn scripts_that_are_not_explained(rt: HostRuntime) -> Result<(), Fail> {
+    let cases = [
+        ("no token", T, "SELECT ?", 3, "dfx: sql lexer at 85\n"),
+        (
+            "no script",
+            T,
+            "SELECT FROM t",
+            3,
+            "dfx: sql syntax at 85\n",
+        ),
+        (
+            "a folder that isn't there, before a name that isn't",
+            "CREATE EXTERNAL TABLE t (a INT) STORED AS CSV LOCATION 'g/'; ",
+            "SELECT c FROM t",
+            4,
+            "dfx: file g/: missing\n",
+        ),
+        (
+            "an Arrow table",
+            "CREATE EXTERNAL TABLE t STORED AS ARROW LOCATION 't.arrow'; ",
+            "SELECT a FROM t",
+            3,
+            "dfx: not built\n",
+        ),
+    ];
+    for (shows, tables, query, status, err) in &cases {
+        let case = Case {
+            shows: *shows,
+            tables: *tables,
+            query: Some(*query),
+            status: *status,
+            sink: "",
+            err: *err,
+            ..PLAN
+        };
+        check(&rt, rt.alloc(), &case)?;
+    }
+    Ok(())
+}
+
+#[test]
 fn refused_partitions(rt: HostRuntime) -> Result<(), Fail> {
     let cases: [(&str, &[&str]); 8] = [
         ("none", &["explain", "f", "--partitions", "0"]),
