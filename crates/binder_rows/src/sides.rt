@@ -154,7 +154,10 @@ fn groups_unions_joins(rt: HostRuntime) -> Result<(), Fail> {
             "SELECT d FROM t UNION ALL SELECT e FROM u",
             "d;|UnionAll|  Project [CAST(#0 AS DECIMAL(38,3))]|    Project [#2]|      Scan t partitions=1 files=1|  Project [CAST(#0 AS DECIMAL(38,3))]|    Project [#2]|      Scan u partitions=1 files=1",
         ),
-        ("SELECT t.a FROM t JOIN u ON t.a > u.a", "no equality of both sides at 232"),
+        (
+            "SELECT t.a FROM t JOIN u ON t.a > u.a",
+            "no equality of both sides at 232",
+        ),
         (
             "SELECT t.a FROM t JOIN u ON t.a = u.a AND t.b",
             "kinds don't fit at 238",
