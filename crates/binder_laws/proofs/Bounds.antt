@@ -1,9 +1,9 @@
 -- The query of a script has its columns in range.
 use Rattle.std.proofs.Common.{ℕ, ◌≡◌, sym, ◌∙◌, subst, true, Some, Ok, Err, List, [], ◌∷◌, map, length}
 use Rattle.logical_plan.specs.declared.query.Query.{Query}
-use Rattle.sql_parser.specs.declared.ast.Script.{Script}
-use Rattle.sql_parser.specs.declared.ast.SelectAst.{SelectAst}
-use Rattle.sql_parser.specs.declared.ast.FromAst.TheViews.{out-SelectAst}
+use Rattle.sql_grammar.specs.declared.ast.Script.{Script}
+use Rattle.sql_grammar.specs.declared.ast.SelectAst.{SelectAst}
+use Rattle.sql_grammar.specs.declared.ast.FromAst.TheViews.{out-SelectAst}
 use Rattle.expr_binder.specs.Answer.{Answer, ◌>>=◌}
 use Rattle.sql_binder.specs.declared.schema.Schema.{Schema}
 use Rattle.sql_binder.specs.declared.selected.Selected.{Selected}

@@ -1,8 +1,8 @@
 -- The calls of a select are found among those that are listed.
 use Rattle.std.proofs.Common.{ℕ, suc, ◌≡◌, ◌+◌, ◌<◌, refl, ap, cond, Bool, true, false, Option, Some, None, List, [], ◌∷◌, ◌++◌, length, arith}
-use Rattle.sql_parser.specs.declared.ast.ExprAst.{ExprAst}
-use Rattle.sql_parser.specs.declared.ast.ItemAst.{ItemAst}
-use Rattle.sql_parser.specs.declared.ast.ItemAst.TheVariants as item
+use Rattle.sql_grammar.specs.declared.ast.ExprAst.{ExprAst}
+use Rattle.sql_grammar.specs.declared.ast.ItemAst.{ItemAst}
+use Rattle.sql_grammar.specs.declared.ast.ItemAst.TheVariants as item
 use Rattle.expr_binder.specs.Calls.{Calls, calls_of, unless_found, with_call, with_calls}
 use Rattle.expr_binder.specs.Same.{same, place_from, place_among}
 use Rattle.expr_binder.specs.Scopes.{Columns}

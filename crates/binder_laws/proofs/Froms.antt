@@ -5,14 +5,14 @@ use Rattle.dfx_value.specs.declared.kind.Kind.{Kind}
 use Rattle.dfx_value.specs.declared.op.JoinKind.{JoinKind}
 use Rattle.logical_plan.specs.declared.plan.Logical.{Logical}
 use Rattle.logical_plan.specs.declared.plan.Logical.TheVariants as plan
-use Rattle.sql_parser.specs.declared.ast.ExprAst.{ExprAst}
-use Rattle.sql_parser.specs.declared.ast.FromAst.{FromAst}
-use Rattle.sql_parser.specs.declared.ast.JoinAst.{JoinAst}
-use Rattle.sql_parser.specs.declared.ast.SelectAst.{SelectAst}
-use Rattle.sql_parser.specs.declared.ast.FromAst.TheOpen.{FromAst-F, JoinAst-F, SelectAst-F}
-use Rattle.sql_parser.specs.declared.ast.FromAst.TheVariants.{rolls-Named, rolls-Derived}
-use Rattle.sql_parser.specs.declared.ast.FromAst.TheViews.{roll-FromAst, roll-JoinAst, roll-SelectAst, out-SelectAst, out-roll-JoinAst, out-roll-SelectAst}
-use Rattle.sql_parser.specs.declared.ast.FromAst.TheFolds.{map-FromAst, map-JoinAst, map-SelectAst, ind-SelectAst}
+use Rattle.sql_grammar.specs.declared.ast.ExprAst.{ExprAst}
+use Rattle.sql_grammar.specs.declared.ast.FromAst.{FromAst}
+use Rattle.sql_grammar.specs.declared.ast.JoinAst.{JoinAst}
+use Rattle.sql_grammar.specs.declared.ast.SelectAst.{SelectAst}
+use Rattle.sql_grammar.specs.declared.ast.FromAst.TheOpen.{FromAst-F, JoinAst-F, SelectAst-F}
+use Rattle.sql_grammar.specs.declared.ast.FromAst.TheVariants.{rolls-Named, rolls-Derived}
+use Rattle.sql_grammar.specs.declared.ast.FromAst.TheViews.{roll-FromAst, roll-JoinAst, roll-SelectAst, out-SelectAst, out-roll-JoinAst, out-roll-SelectAst}
+use Rattle.sql_grammar.specs.declared.ast.FromAst.TheFolds.{map-FromAst, map-JoinAst, map-SelectAst, ind-SelectAst}
 use Rattle.expr_binder.specs.declared.refusal.Why.TheVariants as why
 use Rattle.expr_binder.specs.Answer.{◌>>=◌, or_refuse}
 use Rattle.expr_binder.specs.Scopes.{Columns, any_is, is_under}

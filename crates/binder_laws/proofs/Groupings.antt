@@ -5,14 +5,14 @@ use Rattle.dfx_value.specs.declared.kind.Kind.{Kind}
 use Rattle.dfx_value.specs.declared.kind.Kind.TheVariants as kind
 use Rattle.dfx_value.specs.declared.op.Op.{Op}
 use Rattle.scalar_exprs.specs.Kinds.{agg_kind}
-use Rattle.sql_parser.specs.declared.ast.FnAst.{FnAst}
-use Rattle.sql_parser.specs.declared.ast.FnAst.TheVariants as fn
-use Rattle.sql_parser.specs.declared.ast.ExprAst.{ExprAst, roll-ExprAst}
-use Rattle.sql_parser.specs.declared.ast.NodeAst.{NodeAst, roll-NodeAst}
-use Rattle.sql_parser.specs.declared.ast.NodeAst.TheOpen.{NodeAst-F, ExprAst-F}
-use Rattle.sql_parser.specs.declared.ast.NodeAst.TheViews.{out-roll-ExprAst}
-use Rattle.sql_parser.specs.declared.ast.NodeAst.TheFolds.{map-ExprAst, map-NodeAst, ind-ExprAst}
-use Rattle.sql_parser.specs.declared.ast.NodeAst.TheVariants as node
+use Rattle.sql_grammar.specs.declared.ast.FnAst.{FnAst}
+use Rattle.sql_grammar.specs.declared.ast.FnAst.TheVariants as fn
+use Rattle.sql_grammar.specs.declared.ast.ExprAst.{ExprAst, roll-ExprAst}
+use Rattle.sql_grammar.specs.declared.ast.NodeAst.{NodeAst, roll-NodeAst}
+use Rattle.sql_grammar.specs.declared.ast.NodeAst.TheOpen.{NodeAst-F, ExprAst-F}
+use Rattle.sql_grammar.specs.declared.ast.NodeAst.TheViews.{out-roll-ExprAst}
+use Rattle.sql_grammar.specs.declared.ast.NodeAst.TheFolds.{map-ExprAst, map-NodeAst, ind-ExprAst}
+use Rattle.sql_grammar.specs.declared.ast.NodeAst.TheVariants as node
 use Rattle.expr_binder.specs.declared.typed.Typed.{Typed}
 use Rattle.expr_binder.specs.declared.typed.Unary.{Unary}
 use Rattle.expr_binder.specs.declared.typed.Unary.TheVariants as operator

@@ -4,14 +4,14 @@ use Rattle.std.proofs.lemmas.Bool.{lt-ltb}
 use Rattle.scalar_exprs.specs.declared.expr.Expr.TheVariants as expr
 use Rattle.scalar_exprs.specs.Kinds.{when_number, length_kind}
 use Rattle.dfx_value.specs.declared.kind.Kind.TheVariants as kind
-use Rattle.sql_parser.specs.declared.ast.FnAst.{FnAst}
-use Rattle.sql_parser.specs.declared.ast.FnAst.TheVariants as fn
-use Rattle.sql_parser.specs.declared.ast.ExprAst.{ExprAst, roll-ExprAst}
-use Rattle.sql_parser.specs.declared.ast.NodeAst.{NodeAst, roll-NodeAst}
-use Rattle.sql_parser.specs.declared.ast.NodeAst.TheOpen.{NodeAst-F, ExprAst-F}
-use Rattle.sql_parser.specs.declared.ast.NodeAst.TheFolds.{map-ExprAst, map-NodeAst, ind-ExprAst}
-use Rattle.sql_parser.specs.declared.ast.NodeAst.TheVariants as node
-use Rattle.sql_parser.specs.declared.ast.NodeAst.TheViews.{out-roll-ExprAst}
+use Rattle.sql_grammar.specs.declared.ast.FnAst.{FnAst}
+use Rattle.sql_grammar.specs.declared.ast.FnAst.TheVariants as fn
+use Rattle.sql_grammar.specs.declared.ast.ExprAst.{ExprAst, roll-ExprAst}
+use Rattle.sql_grammar.specs.declared.ast.NodeAst.{NodeAst, roll-NodeAst}
+use Rattle.sql_grammar.specs.declared.ast.NodeAst.TheOpen.{NodeAst-F, ExprAst-F}
+use Rattle.sql_grammar.specs.declared.ast.NodeAst.TheFolds.{map-ExprAst, map-NodeAst, ind-ExprAst}
+use Rattle.sql_grammar.specs.declared.ast.NodeAst.TheVariants as node
+use Rattle.sql_grammar.specs.declared.ast.NodeAst.TheViews.{out-roll-ExprAst}
 use Rattle.expr_binder.specs.declared.scope.Column.{Column}
 use Rattle.expr_binder.specs.declared.typed.Typed.{Typed}
 use Rattle.expr_binder.specs.declared.typed.Typed.TheVariants as typed

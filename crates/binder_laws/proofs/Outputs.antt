@@ -4,9 +4,9 @@ use Rattle.std.proofs.Common.{ℕ, suc, ◌≡◌, ◌+◌, ◌<◌, refl, sym, 
 use Rattle.std.proofs.lemmas.List.{length-map}
 use Rattle.std.proofs.lemmas.Bool.{lt-ltb}
 use Rattle.dfx_value.specs.declared.kind.Kind.TheVariants as kind
-use Rattle.sql_parser.specs.declared.ast.ExprAst.{ExprAst}
-use Rattle.sql_parser.specs.declared.ast.ItemAst.{ItemAst}
-use Rattle.sql_parser.specs.declared.ast.ItemAst.TheVariants as item
+use Rattle.sql_grammar.specs.declared.ast.ExprAst.{ExprAst}
+use Rattle.sql_grammar.specs.declared.ast.ItemAst.{ItemAst}
+use Rattle.sql_grammar.specs.declared.ast.ItemAst.TheVariants as item
 use Rattle.expr_binder.specs.declared.refusal.Why.TheVariants as why
 use Rattle.expr_binder.specs.Scopes.{Columns, is_unknown}
 use Rattle.expr_binder.specs.Typed.{settled}

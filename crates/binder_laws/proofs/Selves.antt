@@ -5,12 +5,12 @@ use Rattle.std.proofs.lemmas.Bool.{eq-eqb}
 use Rattle.dfx_value.specs.declared.kind.Kind.{Kind}
 use Rattle.dfx_value.specs.declared.kind.Kind.TheVariants as kind
 use Rattle.scalar_exprs.specs.Kinds.{same as same_kind}
-use Rattle.sql_parser.specs.declared.ast.ExprAst.{ExprAst, roll-ExprAst, out-ExprAst}
-use Rattle.sql_parser.specs.declared.ast.NodeAst.{NodeAst, roll-NodeAst}
-use Rattle.sql_parser.specs.declared.ast.NodeAst.TheOpen.{NodeAst-F, ExprAst-F}
-use Rattle.sql_parser.specs.declared.ast.NodeAst.TheViews.{out-roll-ExprAst, out-roll-NodeAst, roll-out-ExprAst}
-use Rattle.sql_parser.specs.declared.ast.NodeAst.TheFolds.{map-ExprAst, map-NodeAst, ind-ExprAst, fold-roll-ExprAst, fold-roll-NodeAst}
-use Rattle.sql_parser.specs.declared.ast.NodeAst.TheVariants as node
+use Rattle.sql_grammar.specs.declared.ast.ExprAst.{ExprAst, roll-ExprAst, out-ExprAst}
+use Rattle.sql_grammar.specs.declared.ast.NodeAst.{NodeAst, roll-NodeAst}
+use Rattle.sql_grammar.specs.declared.ast.NodeAst.TheOpen.{NodeAst-F, ExprAst-F}
+use Rattle.sql_grammar.specs.declared.ast.NodeAst.TheViews.{out-roll-ExprAst, out-roll-NodeAst, roll-out-ExprAst}
+use Rattle.sql_grammar.specs.declared.ast.NodeAst.TheFolds.{map-ExprAst, map-NodeAst, ind-ExprAst, fold-roll-ExprAst, fold-roll-NodeAst}
+use Rattle.sql_grammar.specs.declared.ast.NodeAst.TheVariants as node
 use Rattle.expr_binder.specs.declared.typed.Typed.{Typed}
 use Rattle.expr_binder.specs.declared.typed.Unary.TheVariants as operator
 use Rattle.expr_binder.specs.declared.refusal.Why.{Why}

@@ -1,12 +1,12 @@
 -- What stands in a select, one level at a time.
 use Rattle.std.proofs.Common.{◌≡◌, ap, sym, ◌∙◌, ℕ, List, Ok}
 use Rattle.std.specs.Prelude.{map}
-use Rattle.sql_parser.specs.declared.ast.SelectAst.{SelectAst}
-use Rattle.sql_parser.specs.declared.ast.JoinAst.{JoinAst}
-use Rattle.sql_parser.specs.declared.ast.FromAst.TheOpen.{FromAst-F}
-use Rattle.sql_parser.specs.declared.ast.FromAst.TheVariants.{Named, Derived, rolls-Named, rolls-Derived}
-use Rattle.sql_parser.specs.declared.ast.FromAst.TheFolds.{fold-roll-FromAst, fold_out-SelectAst, fold_out-JoinAst}
-use Rattle.sql_parser.specs.declared.ast.FromAst.TheViews.{out-SelectAst, out-JoinAst}
+use Rattle.sql_grammar.specs.declared.ast.SelectAst.{SelectAst}
+use Rattle.sql_grammar.specs.declared.ast.JoinAst.{JoinAst}
+use Rattle.sql_grammar.specs.declared.ast.FromAst.TheOpen.{FromAst-F}
+use Rattle.sql_grammar.specs.declared.ast.FromAst.TheVariants.{Named, Derived, rolls-Named, rolls-Derived}
+use Rattle.sql_grammar.specs.declared.ast.FromAst.TheFolds.{fold-roll-FromAst, fold_out-SelectAst, fold_out-JoinAst}
+use Rattle.sql_grammar.specs.declared.ast.FromAst.TheViews.{out-SelectAst, out-JoinAst}
 use Rattle.expr_binder.specs.Answer.{◌>>=◌}
 use Rattle.sql_binder.specs.declared.schema.Schema.{Schema}
 use Rattle.sql_binder.specs.Sources.{Reading, Joining, table, derived, from, filtered}

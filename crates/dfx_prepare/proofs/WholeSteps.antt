@@ -1,6 +1,6 @@
 -- What is prepared over the files of the tables.
 use Rattle.std.proofs.Common.{◌≡◌, sym, ap, ◌∙◌, ℕ, List, length, Result, Ok, Err, IfOk, IfErr, subst}
-use Rattle.sql_parser.specs.declared.ast.Script.{Script}
+use Rattle.sql_grammar.specs.declared.ast.Script.{Script}
 use Rattle.dfx_prepare.specs.Outcomes.{OrMemory, Answers, IsReading, IsListing, IsQuerying, IsPreparing}
 use Rattle.dfx_prepare.specs.Preparing.{Path, followed, prepared_over, IsOf, IsOfScript}
 use Rattle.dfx_prepare.specs.declared.failure.Failure.{Failure}

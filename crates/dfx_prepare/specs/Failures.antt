@@ -8,8 +8,8 @@ use Rattle.run_journal.specs.declared.cause.Cause.TheVariants as cause
 use Rattle.sql_lexer.specs.Tokens.{most}
 use Rattle.sql_lexer.specs.declared.refused.LexRefused.{LexRefused}
 use Rattle.sql_lexer.specs.declared.refused.LexRefused.TheVariants as lexer
-use Rattle.sql_parser.specs.declared.refused.SyntaxRefused.{SyntaxRefused}
-use Rattle.sql_parser.specs.declared.refused.SyntaxRefused.TheVariants as syntax
+use Rattle.sql_grammar.specs.declared.refused.SyntaxRefused.{SyntaxRefused}
+use Rattle.sql_grammar.specs.declared.refused.SyntaxRefused.TheVariants as syntax
 use Rattle.sql_binder.specs.declared.refused.BindRefused.{BindRefused}
 use Rattle.sql_binder.specs.declared.refused.BindRefused.TheVariants as binder
 use Rattle.dfx_prepare.specs.declared.failure.Failure.{Failure}

@@ -2,8 +2,8 @@
 use Rattle.std.specs.Prelude.{⊤, ◌≡◌, Result, Ok, Err}
 use Rattle.sql_lexer.specs.declared.refused.LexRefused.{LexRefused}
 use Rattle.sql_lexer.specs.declared.refused.LexRefused.TheVariants as lexer
-use Rattle.sql_parser.specs.declared.refused.SyntaxRefused.{SyntaxRefused}
-use Rattle.sql_parser.specs.declared.refused.SyntaxRefused.TheVariants as syntax
+use Rattle.sql_grammar.specs.declared.refused.SyntaxRefused.{SyntaxRefused}
+use Rattle.sql_grammar.specs.declared.refused.SyntaxRefused.TheVariants as syntax
 use Rattle.sql_binder.specs.declared.refused.BindRefused.{BindRefused}
 use Rattle.sql_binder.specs.declared.refused.BindRefused.TheVariants as binder
 use Rattle.dfx_prepare.specs.declared.failure.Failure.{Failure}

@@ -5,10 +5,10 @@ use Rattle.dfx_outside.specs.Contents.{Contents, has_folder}
 use Rattle.sql_lexer.specs.Tokens.{Tokens}
 use Rattle.sql_lexer.specs.declared.token.Token.{Token}
 use Rattle.sql_lexer.specs.declared.refused.LexRefused.{LexRefused}
-use Rattle.sql_parser.specs.Parsed.{parsed}
-use Rattle.sql_parser.specs.declared.ast.Script.{Script}
-use Rattle.sql_parser.specs.declared.ast.TableAst.{TableAst}
-use Rattle.sql_parser.specs.declared.refused.SyntaxRefused.{SyntaxRefused}
+use Rattle.sql_grammar.specs.Parsed.{parsed}
+use Rattle.sql_grammar.specs.declared.ast.Script.{Script}
+use Rattle.sql_grammar.specs.declared.ast.TableAst.{TableAst}
+use Rattle.sql_grammar.specs.declared.refused.SyntaxRefused.{SyntaxRefused}
 use Rattle.expr_binder.specs.Answer.{Answer}
 use Rattle.sql_binder.specs.Bound.{bound}
 use Rattle.sql_binder.specs.Refusals.{named}

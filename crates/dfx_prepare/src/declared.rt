@@ -5,7 +5,7 @@ ghost use Rattle.dfx_prepare.specs.Preparing as spec;
 
 use dfx_value::{Kind, NoMemory, Seq, Text};
 use sql_binder::Schema;
-use sql_parser::ast::TableAst;
+use sql_grammar::ast::TableAst;
 use std::alloc::Global;
 
 fn names_of(alloc: Global, columns: &[(Text, Kind)]) -> Result<Seq<Text>, NoMemory>

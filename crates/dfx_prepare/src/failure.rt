@@ -7,8 +7,8 @@ ghost use Rattle.dfx_prepare.specs.Failures as spec;
 use dfx_value::{Bytes, EvalFault, NoMemory, Text};
 use run_journal::Cause;
 use sql_binder::BindRefused;
+use sql_grammar::SyntaxRefused;
 use sql_lexer::LexRefused;
-use sql_parser::SyntaxRefused;
 use std::alloc::Global;
 
 /// The greatest number of bytes of a script.

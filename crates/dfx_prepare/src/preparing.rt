@@ -4,7 +4,7 @@ ghost use Rattle.std.specs.Prelude.{◌≡◌, ◌<◌, ◌≤◌, ◌^◌, ℕ,
 ghost use Rattle.dfx_outside.specs.Causes.{Rose};
 ghost use Rattle.dfx_outside.specs.Contents.{Contents};
 ghost use Rattle.sql_lexer.specs.Parts.{IsToken};
-ghost use Rattle.sql_parser.specs.Parsed.{parsed};
+ghost use Rattle.sql_grammar.specs.Parsed.{parsed};
 ghost use Rattle.physical_build.specs.Planned.{IsPlanned};
 ghost use Rattle.dfx_prepare.specs.Outcomes.{Answers, IsPreparing, IsQuerying, IsReading, OrMemory};
 ghost use Rattle.dfx_prepare.specs.Preparing as spec;
@@ -23,8 +23,8 @@ use logical_plan::Query;
 use physical_build::build;
 use physical_plan::Plan;
 use sql_binder::{BindRefused, bind};
+use sql_grammar::ast::Script;
 use sql_lexer::{LexRefused, Token, tokens};
-use sql_parser::ast::Script;
 use sql_parser::{SyntaxRefused, parse_script};
 use std::alloc::Global;
 

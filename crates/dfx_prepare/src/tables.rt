@@ -11,7 +11,7 @@ ghost use Rattle.dfx_prepare.specs.declared.failure.Failure.TheVariants as failu
 use crate::failure::Failure;
 use dfx_outside::{Files, FilesRefused};
 use dfx_value::{NoMemory, Seq, Text};
-use sql_parser::ast::TableAst;
+use sql_grammar::ast::TableAst;
 use std::alloc::Global;
 
 fn is_folder(location: &Text) -> bool

@@ -106,10 +106,10 @@ module _ (all : Contents) (before : List ℕ) (now : Option (List ℕ)) (quiet :
     complete = λ t tables at has none clean q. done q;
   }
 
-  early : (o : Result Ready Failure) (f : Failure) → now ≡ Some before → ((p : Prepared) → EndedQuery all before p now (Some f)) → ((x : Option Failure) → IsCalledFor x (Some f)) → ((ps : List Path) (t : ℕ) (m : List ItemFault) → IsMet ps t m (Some f)) → (quiet → IsDone (Some f)) → Told all before o now quiet (Some f)
-  early (Ok (request.Query, p)) f h ended called met done = told_query p (Some f) (early_query p f (ended p) called met done)
-  early (Ok (request.Explain n, p)) f h ended called met done = told_of_explain n p (Some f) (none_written before (text_of p) now h) (called None) done
-  early (Err refusal) f h ended called met done = record {
+  early : (o : Result Ready Failure) (f : Failure) → now ≡ Some before → ((p : Prepared) → EndedQuery all before p now (Some f)) → ((p : Prepared) → EndedExplain before p now (Some f)) → ((x : Option Failure) → IsCalledFor x (Some f)) → ((ps : List Path) (t : ℕ) (m : List ItemFault) → IsMet ps t m (Some f)) → (quiet → IsDone (Some f)) → Told all before o now quiet (Some f)
+  early (Ok (request.Query, p)) f h ended plan called met done = told_query p (Some f) (early_query p f (ended p) called met done)
+  early (Ok (request.Explain n, p)) f h ended plan called met done = told_of_explain n p (Some f) (plan p) (called None) done
+  early (Err refusal) f h ended plan called met done = record {
     ended = h;
     called = called (Some refusal);
     query = λ q e. absurd (subst IsQuery (sym e) tt);
@@ -118,10 +118,10 @@ module _ (all : Contents) (before : List ℕ) (now : Option (List ℕ)) (quiet :
 
   -- a file failed, or there was no memory
   told_read : (o : Result Ready Failure) → now ≡ Some before → ¬ quiet → Told all before o now quiet (Some failure.Read)
-  told_read o h loud = early o failure.Read h (λ p. inl h) (λ x. tt) (λ ps t m. tt) (λ q. absurd (loud q))
+  told_read o h loud = early o failure.Read h (λ p. inl h) (λ p. h) (λ x. tt) (λ ps t m. tt) (λ q. absurd (loud q))
 
   told_memory : (o : Result Ready Failure) → now ≡ Some before → Told all before o now quiet (Some failure.NoMemory)
-  told_memory o h = early o failure.NoMemory h (λ p. inl h) (λ x. tt) (λ ps t m. tt) (λ q. tt)
+  told_memory o h = early o failure.NoMemory h (λ p. inl h) (λ p. none_written before (text_of p) now h) (λ x. tt) (λ ps t m. tt) (λ q. tt)
 
   -- what is asked is refused
   told_refusal : (f : Failure) → now ≡ Some before → IsCalledFor (Some f) (Some f) → Told all before (Err f) now quiet (Some f)

@@ -1,6 +1,6 @@
 -- Meaning: what a command wrote, by what was asked and how it ended. `all` are the contents of the files, `before` and `now` what the
 -- sink had taken at the call and at its end.
-use Rattle.std.specs.Prelude.{ℕ, ◌≡◌, ◌⊎◌, ◌++◌, List, Option, Some, None, Result, Ok, Err}
+use Rattle.std.specs.Prelude.{⊥, ℕ, ◌≡◌, ◌⊎◌, ◌++◌, List, Option, Some, None, Result, Ok, Err}
 use Rattle.dfx_outside.specs.Bytes.{EndsInFront}
 use Rattle.dfx_outside.specs.Contents.{Contents}
 use Rattle.dfx_value.specs.declared.fault.ItemFault.TheVariants.{Evaluation}
@@ -50,10 +50,14 @@ EndedQuery all before p now (Some f) = now ≡ Some before
 abbrev pub text_of : Prepared → List ℕ
 text_of p = plan_text p.tables p.plan
 
--- the plan's text was written, or a beginning of it, which may be nothing
+-- The plan's text was written; or, where the sink failed or memory was wanting, a beginning of it, which may be nothing. No other
+-- failure comes, but for a file that failed before.
 abbrev pub EndedExplain : List ℕ → Prepared → Option (List ℕ) → Option Failure → Type 0
 EndedExplain before p now None = now ≡ Some (before ++ text_of p)
-EndedExplain before p now (Some f) = EndsInFront before (text_of p) now
+EndedExplain before p now (Some failure.Write) = EndsInFront before (text_of p) now
+EndedExplain before p now (Some failure.NoMemory) = EndsInFront before (text_of p) now
+EndedExplain before p now (Some failure.Read) = now ≡ Some before
+EndedExplain before p now (Some f) = ⊥
 
 -- ---- commands
 

@@ -48,13 +48,6 @@ IsWriting failure.Write = ⊤
 IsWriting failure.NoMemory = ⊤
 IsWriting f = ⊥
 
--- nothing was written yet
-abbrev pub IsEarly : Failure → Type 0
-IsEarly failure.Write = ⊥
-IsEarly (failure.BadFile path cause) = ⊥
-IsEarly (failure.Evaluation f) = ⊥
-IsEarly f = ⊤
-
 -- the failure of a refused run over files at these paths, but for want of memory
 abbrev pub FailureOf : List Path → RunRefused → Failure → Type 0
 FailureOf paths (refused.Missing file) f = (f ≡ failure.Missing (path_at paths file)) ⊎ (f ≡ failure.NoMemory)

@@ -2,12 +2,12 @@
 use Rattle.std.proofs.Common.{◌≡◌, refl, ap, sym, ◌∙◌, ℕ, Bool, Option, Some, None, List, [], ◌∷◌, ◌++◌, map, cond, suc, ◌+◌, ◌<◌, length, get_or, drop, drop-cons, add-one}
 use Rattle.dfx_value.specs.declared.kind.Kind.{Kind}
 use Rattle.dfx_value.specs.declared.op.Op.{Op}
-use Rattle.sql_parser.specs.declared.ast.FnAst.{FnAst}
-use Rattle.sql_parser.specs.declared.ast.ExprAst.{ExprAst, roll-ExprAst, out-ExprAst}
-use Rattle.sql_parser.specs.declared.ast.NodeAst.{NodeAst, roll-NodeAst}
-use Rattle.sql_parser.specs.declared.ast.NodeAst.TheOpen.{NodeAst-F, ExprAst-F}
-use Rattle.sql_parser.specs.declared.ast.NodeAst.TheFolds.{para-roll-ExprAst, para-roll-NodeAst, map-NodeAst}
-use Rattle.sql_parser.specs.declared.ast.NodeAst.TheVariants as node
+use Rattle.sql_grammar.specs.declared.ast.FnAst.{FnAst}
+use Rattle.sql_grammar.specs.declared.ast.ExprAst.{ExprAst, roll-ExprAst, out-ExprAst}
+use Rattle.sql_grammar.specs.declared.ast.NodeAst.{NodeAst, roll-NodeAst}
+use Rattle.sql_grammar.specs.declared.ast.NodeAst.TheOpen.{NodeAst-F, ExprAst-F}
+use Rattle.sql_grammar.specs.declared.ast.NodeAst.TheFolds.{para-roll-ExprAst, para-roll-NodeAst, map-NodeAst}
+use Rattle.sql_grammar.specs.declared.ast.NodeAst.TheVariants as node
 use Rattle.expr_binder.specs.Calls.{Calls, Part, calls_of, calls_in, of_layer, node_calls, expr_calls, of_parts, of_arms, is_aggregate, calls_of_all, calls_of_arm, calls_of_arms, calls_of_other, with_calls, with_call}
 use Rattle.expr_binder.specs.Meaning.{node_of}
 use Rattle.expr_binder.specs.Scopes.{Columns}

@@ -4,11 +4,11 @@ use Rattle.dfx_value.specs.declared.kind.Kind.TheVariants as kind
 use Rattle.dfx_value.specs.declared.value.Value.TheVariants as value
 use Rattle.dfx_value.specs.declared.op.Op.TheVariants as op
 use Rattle.scalar_exprs.specs.declared.expr.Expr.TheVariants as expr
-use Rattle.sql_parser.specs.declared.ast.FnAst.TheVariants as fn
-use Rattle.sql_parser.specs.declared.ast.ExprAst.{ExprAst, roll-ExprAst, out-ExprAst}
-use Rattle.sql_parser.specs.declared.ast.NodeAst.{NodeAst, out-NodeAst}
-use Rattle.sql_parser.specs.declared.ast.NodeAst.TheVariants as node
-use Rattle.sql_parser.specs.declared.ast.NodeAst.TheFolds.{fold-roll-ExprAst, fold_out-NodeAst, map-NodeAst}
+use Rattle.sql_grammar.specs.declared.ast.FnAst.TheVariants as fn
+use Rattle.sql_grammar.specs.declared.ast.ExprAst.{ExprAst, roll-ExprAst, out-ExprAst}
+use Rattle.sql_grammar.specs.declared.ast.NodeAst.{NodeAst, out-NodeAst}
+use Rattle.sql_grammar.specs.declared.ast.NodeAst.TheVariants as node
+use Rattle.sql_grammar.specs.declared.ast.NodeAst.TheFolds.{fold-roll-ExprAst, fold_out-NodeAst, map-NodeAst}
 use Rattle.expr_binder.specs.Answer.{refuse}
 use Rattle.expr_binder.specs.Calls.{with_expr}
 use Rattle.expr_binder.specs.Groups.{Over}

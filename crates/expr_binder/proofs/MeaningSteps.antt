@@ -2,12 +2,12 @@
 use Rattle.std.proofs.Common.{◌≡◌, refl, ap, sym, ◌∙◌, ℕ, Bool, Option, Some, None, List, [], ◌∷◌, Ok, map}
 use Rattle.dfx_value.specs.declared.kind.Kind.{Kind}
 use Rattle.dfx_value.specs.declared.op.Op.{Op}
-use Rattle.sql_parser.specs.declared.ast.FnAst.{FnAst}
-use Rattle.sql_parser.specs.declared.ast.ExprAst.{ExprAst, roll-ExprAst, out-ExprAst}
-use Rattle.sql_parser.specs.declared.ast.NodeAst.{NodeAst, roll-NodeAst}
-use Rattle.sql_parser.specs.declared.ast.NodeAst.TheOpen.{NodeAst-F, ExprAst-F}
-use Rattle.sql_parser.specs.declared.ast.NodeAst.TheFolds.{para-roll-ExprAst, para-roll-NodeAst, map-NodeAst}
-use Rattle.sql_parser.specs.declared.ast.NodeAst.TheVariants as node
+use Rattle.sql_grammar.specs.declared.ast.FnAst.{FnAst}
+use Rattle.sql_grammar.specs.declared.ast.ExprAst.{ExprAst, roll-ExprAst, out-ExprAst}
+use Rattle.sql_grammar.specs.declared.ast.NodeAst.{NodeAst, roll-NodeAst}
+use Rattle.sql_grammar.specs.declared.ast.NodeAst.TheOpen.{NodeAst-F, ExprAst-F}
+use Rattle.sql_grammar.specs.declared.ast.NodeAst.TheFolds.{para-roll-ExprAst, para-roll-NodeAst, map-NodeAst}
+use Rattle.sql_grammar.specs.declared.ast.NodeAst.TheVariants as node
 use Rattle.expr_binder.specs.declared.case.Arm.{Arm}
 use Rattle.expr_binder.specs.declared.typed.Typed.{Typed}
 use Rattle.expr_binder.specs.declared.typed.Typed.TheVariants as typed

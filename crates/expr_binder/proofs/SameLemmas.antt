@@ -1,6 +1,6 @@
 -- Lists of unequal lengths aren't the same, place by place.
 use Rattle.std.proofs.Common.{◌≡◌, ◌≢◌, refl, ap, suc, Bool, true, false, ◌&&◌, List, [], ◌∷◌, length, map}
-use Rattle.sql_parser.specs.declared.ast.ExprAst.{ExprAst}
+use Rattle.sql_grammar.specs.declared.ast.ExprAst.{ExprAst}
 use Rattle.expr_binder.specs.Same.{Is, all_same, arms_same}
 
 never : (b c : Bool) → false ≡ c → false ≡ (b && c)

@@ -1,11 +1,11 @@
 -- Meaning: the aggregate calls of expressions, in the order in which they are met, equal ones once.
 use Rattle.std.specs.Prelude.{ℕ, Bool, true, false, Option, Some, None, List, [], ◌∷◌, ◌++◌, map, if◌then◌else◌}
-use Rattle.sql_parser.specs.declared.ast.FnAst.{FnAst}
-use Rattle.sql_parser.specs.declared.ast.FnAst.TheVariants as fn
-use Rattle.sql_parser.specs.declared.ast.ExprAst.{ExprAst, roll-ExprAst}
-use Rattle.sql_parser.specs.declared.ast.NodeAst.{NodeAst}
-use Rattle.sql_parser.specs.declared.ast.NodeAst.TheOpen.{NodeAst-F, ExprAst-F}
-use Rattle.sql_parser.specs.declared.ast.NodeAst.TheFolds.{para-ExprAst, para-NodeAst}
+use Rattle.sql_grammar.specs.declared.ast.FnAst.{FnAst}
+use Rattle.sql_grammar.specs.declared.ast.FnAst.TheVariants as fn
+use Rattle.sql_grammar.specs.declared.ast.ExprAst.{ExprAst, roll-ExprAst}
+use Rattle.sql_grammar.specs.declared.ast.NodeAst.{NodeAst}
+use Rattle.sql_grammar.specs.declared.ast.NodeAst.TheOpen.{NodeAst-F, ExprAst-F}
+use Rattle.sql_grammar.specs.declared.ast.NodeAst.TheFolds.{para-ExprAst, para-NodeAst}
 use Rattle.expr_binder.specs.Same.{place_among}
 use Rattle.expr_binder.specs.Scopes.{Columns}
 

@@ -1,7 +1,7 @@
 -- Meaning: where an expression stands.
 use Rattle.std.specs.Prelude.{Option, List}
 use Rattle.dfx_value.specs.declared.kind.Kind.{Kind}
-use Rattle.sql_parser.specs.declared.ast.ExprAst.{ExprAst}
+use Rattle.sql_grammar.specs.declared.ast.ExprAst.{ExprAst}
 
 -- the keys with their kinds, and the aggregate calls, each once
 pub record Groups : Type 0 where

@@ -9,13 +9,13 @@ use Rattle.dfx_value.specs.declared.value.Value.{Value}
 use Rattle.dfx_value.specs.declared.value.Value.TheVariants as value
 use Rattle.scalar_exprs.specs.declared.expr.Expr.TheVariants as expr
 use Rattle.scalar_exprs.specs.Kinds.{when_number, length_kind, agg_kind}
-use Rattle.sql_parser.specs.declared.ast.FnAst.{FnAst}
-use Rattle.sql_parser.specs.declared.ast.FnAst.TheVariants as fn
-use Rattle.sql_parser.specs.declared.ast.ExprAst.{ExprAst, roll-ExprAst}
-use Rattle.sql_parser.specs.declared.ast.NodeAst.{NodeAst}
-use Rattle.sql_parser.specs.declared.ast.NodeAst.TheOpen.{NodeAst-F, ExprAst-F}
-use Rattle.sql_parser.specs.declared.ast.NodeAst.TheViews.{out-ExprAst}
-use Rattle.sql_parser.specs.declared.ast.NodeAst.TheFolds.{para-ExprAst, para-NodeAst}
+use Rattle.sql_grammar.specs.declared.ast.FnAst.{FnAst}
+use Rattle.sql_grammar.specs.declared.ast.FnAst.TheVariants as fn
+use Rattle.sql_grammar.specs.declared.ast.ExprAst.{ExprAst, roll-ExprAst}
+use Rattle.sql_grammar.specs.declared.ast.NodeAst.{NodeAst}
+use Rattle.sql_grammar.specs.declared.ast.NodeAst.TheOpen.{NodeAst-F, ExprAst-F}
+use Rattle.sql_grammar.specs.declared.ast.NodeAst.TheViews.{out-ExprAst}
+use Rattle.sql_grammar.specs.declared.ast.NodeAst.TheFolds.{para-ExprAst, para-NodeAst}
 use Rattle.expr_binder.specs.declared.case.Arm.{Arm}
 use Rattle.expr_binder.specs.declared.refusal.Why.TheVariants as why
 use Rattle.expr_binder.specs.declared.scope.Column.{Column}

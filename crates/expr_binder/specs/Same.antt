@@ -3,13 +3,13 @@ use Rattle.std.specs.Prelude.{ℕ, suc, if◌then◌else◌, not, ◌&&◌, Bool
 use Rattle.dfx_value.specs.declared.op.Op.{Op}
 use Rattle.dfx_value.specs.declared.op.Op.TheVariants as op
 use Rattle.scalar_exprs.specs.Kinds.{same as same_kind}
-use Rattle.sql_parser.specs.declared.ast.FnAst.{FnAst}
-use Rattle.sql_parser.specs.declared.ast.FnAst.TheVariants as fn
-use Rattle.sql_parser.specs.declared.ast.ExprAst.{ExprAst}
-use Rattle.sql_parser.specs.declared.ast.NodeAst.{NodeAst}
-use Rattle.sql_parser.specs.declared.ast.NodeAst.TheOpen.{NodeAst-F, ExprAst-F}
-use Rattle.sql_parser.specs.declared.ast.NodeAst.TheViews.{out-ExprAst, out-NodeAst}
-use Rattle.sql_parser.specs.declared.ast.NodeAst.TheFolds.{fold-ExprAst, fold-NodeAst}
+use Rattle.sql_grammar.specs.declared.ast.FnAst.{FnAst}
+use Rattle.sql_grammar.specs.declared.ast.FnAst.TheVariants as fn
+use Rattle.sql_grammar.specs.declared.ast.ExprAst.{ExprAst}
+use Rattle.sql_grammar.specs.declared.ast.NodeAst.{NodeAst}
+use Rattle.sql_grammar.specs.declared.ast.NodeAst.TheOpen.{NodeAst-F, ExprAst-F}
+use Rattle.sql_grammar.specs.declared.ast.NodeAst.TheViews.{out-ExprAst, out-NodeAst}
+use Rattle.sql_grammar.specs.declared.ast.NodeAst.TheFolds.{fold-ExprAst, fold-NodeAst}
 use Rattle.expr_binder.specs.Scopes.{Columns, column_of, is_text}
 use Rattle.expr_binder.specs.Answer.{Answer}
 

@@ -17,7 +17,7 @@ use crate::typed::{Typed, Unary, absolute, apply_unary, binary, length_of, or_mi
 use crate::unify::coalesced;
 use dfx_value::{AggCall, Kind, NoMemory, Text, Value};
 use scalar_exprs::{Expr, agg_kind};
-use sql_parser::ast::{ExprAst, FnAst, NodeAst};
+use sql_grammar::ast::{ExprAst, FnAst, NodeAst};
 use sqlite_items::{Boxed, Items};
 use std::alloc::Global;
 

@@ -6,8 +6,8 @@ ghost use Rattle.expr_binder.specs.Calls as spec;
 use crate::equality::place_among;
 use crate::scope::Column;
 use dfx_value::NoMemory;
-use sql_parser::ast::{ExprAst, FnAst, NodeAst};
-use sql_parser::copy_expr;
+use sql_grammar::ast::{ExprAst, FnAst, NodeAst};
+use sql_grammar::copy_expr;
 use sqlite_items::{Boxed, Items};
 use std::alloc::Global;
 

@@ -6,7 +6,7 @@ ghost use Rattle.expr_binder.specs.Same as spec;
 use crate::scope::{Column, column_of};
 use dfx_value::{Kind, Op, Text};
 use scalar_exprs::same as same_kind;
-use sql_parser::ast::{ExprAst, FnAst, NodeAst};
+use sql_grammar::ast::{ExprAst, FnAst, NodeAst};
 use sqlite_items::Boxed;
 
 /// Whether both names name one column, which each names alone.

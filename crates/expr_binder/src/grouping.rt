@@ -1,5 +1,5 @@
 use dfx_value::Kind;
-use sql_parser::ast::ExprAst;
+use sql_grammar::ast::ExprAst;
 use std::marker::Model;
 
 /// What the items of a grouped select are over: the rows of its keys, and then of its aggregates.
@@ -15,7 +15,7 @@ pub struct Grouping<'a> {
 
 impl<'a> Model for Grouping<'a> {
     ghost use Rattle.std.specs.Coded.{codes};
-    ghost use Rattle.sql_parser.specs.contracts.ast.ExprAst as tree;
+    ghost use Rattle.sql_grammar.specs.contracts.ast.ExprAst as tree;
     ghost use Rattle.expr_binder.specs.Groups.{Groups};
 
     ghost Value = { Groups };

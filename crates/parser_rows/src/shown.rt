@@ -1,6 +1,6 @@
 //! Trees as short texts, with the place of each node, for the tests.
 use dfx_value::{JoinKind, Kind, Op, Text};
-use sql_parser::ast::{
+use sql_grammar::ast::{
     ExprAst, FnAst, FromAst, ItemAst, JoinAst, KeyAst, NodeAst, NumberAst, Script, SelectAst,
     TableAst,
 };

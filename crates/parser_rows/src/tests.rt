@@ -1,6 +1,6 @@
 use crate::shown::show_script;
+use sql_grammar::ast::Script;
 use sql_lexer::tokens;
-use sql_parser::ast::Script;
 use sql_parser::{SyntaxRefused, parse_script};
 use std::rt::HostRuntime;
 use std::test::Fail;

@@ -2,8 +2,8 @@
 use Rattle.std.proofs.Common.{◌≡◌, refl, ap, sym, ◌∙◌, ℕ, suc, ◌+◌, Bool, true, false, cond, Option, Some, None, List, [], ◌∷◌, ◌++◌, length, arith, drop, get_or, ◌<◌, ◌≤◌}
 use Rattle.std.specs.Prelude.{option_map}
 use Rattle.std.proofs.lemmas.List.{drop_all, drop_more}
-use Rattle.sql_parser.specs.declared.ast.ExprAst.{ExprAst}
-use Rattle.sql_parser.specs.declared.ast.ItemAst.{ItemAst}
+use Rattle.sql_grammar.specs.declared.ast.ExprAst.{ExprAst}
+use Rattle.sql_grammar.specs.declared.ast.ItemAst.{ItemAst}
 use Rattle.expr_binder.specs.Scopes.{Columns}
 use Rattle.sql_binder.specs.Orders.{first_from, tests_of, item_tests, place_in, width_of, place_from}
 

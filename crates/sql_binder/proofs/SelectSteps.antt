@@ -2,13 +2,13 @@
 use Rattle.std.proofs.Common.{◌≡◌, ap, sym, ◌∙◌, ℕ, ◌+◌, ◌<◌, List, [], ◌∷◌, ◌++◌, length, drop, get_or, Ok}
 use Rattle.std.proofs.lemmas.List.{drop_more}
 use Rattle.std.specs.Prelude.{map}
-use Rattle.sql_parser.specs.declared.ast.SelectAst.{SelectAst}
-use Rattle.sql_parser.specs.declared.ast.FromAst.{FromAst}
-use Rattle.sql_parser.specs.declared.ast.JoinAst.{JoinAst}
-use Rattle.sql_parser.specs.declared.ast.FromAst.TheOpen.{FromAst-F}
-use Rattle.sql_parser.specs.declared.ast.FromAst.TheVariants.{Named, Derived, rolls-Named, rolls-Derived}
-use Rattle.sql_parser.specs.declared.ast.FromAst.TheFolds.{fold-roll-FromAst, fold_out-SelectAst, fold_out-JoinAst}
-use Rattle.sql_parser.specs.declared.ast.FromAst.TheViews.{out-SelectAst, out-JoinAst}
+use Rattle.sql_grammar.specs.declared.ast.SelectAst.{SelectAst}
+use Rattle.sql_grammar.specs.declared.ast.FromAst.{FromAst}
+use Rattle.sql_grammar.specs.declared.ast.JoinAst.{JoinAst}
+use Rattle.sql_grammar.specs.declared.ast.FromAst.TheOpen.{FromAst-F}
+use Rattle.sql_grammar.specs.declared.ast.FromAst.TheVariants.{Named, Derived, rolls-Named, rolls-Derived}
+use Rattle.sql_grammar.specs.declared.ast.FromAst.TheFolds.{fold-roll-FromAst, fold_out-SelectAst, fold_out-JoinAst}
+use Rattle.sql_grammar.specs.declared.ast.FromAst.TheViews.{out-SelectAst, out-JoinAst}
 use Rattle.expr_binder.specs.Answer.{Answer, ◌>>=◌}
 use Rattle.sql_binder.specs.declared.selected.Selected.{Selected}
 use Rattle.sql_binder.specs.Each.{each_after}

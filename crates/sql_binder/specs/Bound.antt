@@ -1,9 +1,9 @@
 -- Meaning: the query of a script over tables of these schemas, or the first refusal.
 use Rattle.std.specs.Prelude.{ℕ, Option, Some, None, List, [], ◌∷◌, map, Ok}
 use Rattle.logical_plan.specs.declared.query.Query.{Query}
-use Rattle.sql_parser.specs.declared.ast.Script.{Script}
-use Rattle.sql_parser.specs.declared.ast.SelectAst.{SelectAst}
-use Rattle.sql_parser.specs.declared.ast.FromAst.TheViews.{out-SelectAst}
+use Rattle.sql_grammar.specs.declared.ast.Script.{Script}
+use Rattle.sql_grammar.specs.declared.ast.SelectAst.{SelectAst}
+use Rattle.sql_grammar.specs.declared.ast.FromAst.TheViews.{out-SelectAst}
 use Rattle.expr_binder.specs.Answer.{Answer, ◌>>=◌}
 use Rattle.expr_binder.specs.Scopes.{Columns}
 use Rattle.sql_binder.specs.declared.schema.Schema.{Schema}

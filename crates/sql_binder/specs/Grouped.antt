@@ -6,14 +6,14 @@ use Rattle.dfx_value.specs.declared.op.AggCall.TheVariants as agg_call
 use Rattle.scalar_exprs.specs.declared.expr.Expr.{Expr}
 use Rattle.logical_plan.specs.declared.plan.Logical.{Logical}
 use Rattle.logical_plan.specs.declared.plan.Logical.TheVariants as plan
-use Rattle.sql_parser.specs.declared.ast.FnAst.{FnAst}
-use Rattle.sql_parser.specs.declared.ast.FnAst.TheVariants as fn
-use Rattle.sql_parser.specs.declared.ast.ExprAst.{ExprAst}
-use Rattle.sql_parser.specs.declared.ast.NodeAst.{NodeAst}
-use Rattle.sql_parser.specs.declared.ast.NodeAst.TheOpen.{NodeAst-F}
-use Rattle.sql_parser.specs.declared.ast.NodeAst.TheViews.{out-ExprAst, out-NodeAst}
-use Rattle.sql_parser.specs.declared.ast.ItemAst.{ItemAst}
-use Rattle.sql_parser.specs.declared.ast.ItemAst.TheVariants as item
+use Rattle.sql_grammar.specs.declared.ast.FnAst.{FnAst}
+use Rattle.sql_grammar.specs.declared.ast.FnAst.TheVariants as fn
+use Rattle.sql_grammar.specs.declared.ast.ExprAst.{ExprAst}
+use Rattle.sql_grammar.specs.declared.ast.NodeAst.{NodeAst}
+use Rattle.sql_grammar.specs.declared.ast.NodeAst.TheOpen.{NodeAst-F}
+use Rattle.sql_grammar.specs.declared.ast.NodeAst.TheViews.{out-ExprAst, out-NodeAst}
+use Rattle.sql_grammar.specs.declared.ast.ItemAst.{ItemAst}
+use Rattle.sql_grammar.specs.declared.ast.ItemAst.TheVariants as item
 use Rattle.expr_binder.specs.declared.refusal.Why.TheVariants as why
 use Rattle.expr_binder.specs.Answer.{Answer, ◌>>=◌, refuse, refuse_if}
 use Rattle.expr_binder.specs.Scopes.{Columns}

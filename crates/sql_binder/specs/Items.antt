@@ -5,12 +5,12 @@ use Rattle.dfx_value.specs.declared.kind.Kind.{Kind}
 use Rattle.dfx_value.specs.declared.kind.Kind.TheVariants as kind
 use Rattle.scalar_exprs.specs.declared.expr.Expr.{Expr}
 use Rattle.scalar_exprs.specs.declared.expr.Expr.TheVariants as expr
-use Rattle.sql_parser.specs.declared.ast.ExprAst.{ExprAst}
-use Rattle.sql_parser.specs.declared.ast.NodeAst.{NodeAst}
-use Rattle.sql_parser.specs.declared.ast.NodeAst.TheOpen.{NodeAst-F}
-use Rattle.sql_parser.specs.declared.ast.NodeAst.TheViews.{out-ExprAst, out-NodeAst}
-use Rattle.sql_parser.specs.declared.ast.ItemAst.{ItemAst}
-use Rattle.sql_parser.specs.declared.ast.ItemAst.TheVariants as item
+use Rattle.sql_grammar.specs.declared.ast.ExprAst.{ExprAst}
+use Rattle.sql_grammar.specs.declared.ast.NodeAst.{NodeAst}
+use Rattle.sql_grammar.specs.declared.ast.NodeAst.TheOpen.{NodeAst-F}
+use Rattle.sql_grammar.specs.declared.ast.NodeAst.TheViews.{out-ExprAst, out-NodeAst}
+use Rattle.sql_grammar.specs.declared.ast.ItemAst.{ItemAst}
+use Rattle.sql_grammar.specs.declared.ast.ItemAst.TheVariants as item
 use Rattle.expr_binder.specs.declared.refusal.Why.TheVariants as why
 use Rattle.expr_binder.specs.declared.scope.Column.{Column}
 use Rattle.expr_binder.specs.Answer.{Answer, ◌>>=◌, refuse, refuse_if}

@@ -2,14 +2,14 @@
 use Rattle.std.specs.Prelude.{ℕ, suc, ◌-◌, ◌&&◌, nat_le, Bool, true, false, Option, Some, None, option_and_then, List, [], ◌∷◌, ◌++◌, length, map, ℤ, pos, negsuc, Ok, if◌then◌else◌}
 use Rattle.dfx_value.specs.Parse.{int_of}
 use Rattle.dfx_value.specs.declared.rows.SortKey.{SortKey}
-use Rattle.sql_parser.specs.declared.ast.ExprAst.{ExprAst}
-use Rattle.sql_parser.specs.declared.ast.NodeAst.{NodeAst}
-use Rattle.sql_parser.specs.declared.ast.NodeAst.TheOpen.{NodeAst-F}
-use Rattle.sql_parser.specs.declared.ast.NodeAst.TheViews.{out-ExprAst, out-NodeAst}
-use Rattle.sql_parser.specs.declared.ast.ItemAst.{ItemAst}
-use Rattle.sql_parser.specs.declared.ast.ItemAst.TheVariants as item
-use Rattle.sql_parser.specs.declared.ast.KeyAst.{KeyAst}
-use Rattle.sql_parser.specs.declared.ast.NumberAst.{NumberAst}
+use Rattle.sql_grammar.specs.declared.ast.ExprAst.{ExprAst}
+use Rattle.sql_grammar.specs.declared.ast.NodeAst.{NodeAst}
+use Rattle.sql_grammar.specs.declared.ast.NodeAst.TheOpen.{NodeAst-F}
+use Rattle.sql_grammar.specs.declared.ast.NodeAst.TheViews.{out-ExprAst, out-NodeAst}
+use Rattle.sql_grammar.specs.declared.ast.ItemAst.{ItemAst}
+use Rattle.sql_grammar.specs.declared.ast.ItemAst.TheVariants as item
+use Rattle.sql_grammar.specs.declared.ast.KeyAst.{KeyAst}
+use Rattle.sql_grammar.specs.declared.ast.NumberAst.{NumberAst}
 use Rattle.expr_binder.specs.declared.refusal.Why.TheVariants as why
 use Rattle.expr_binder.specs.Answer.{Answer, ◌>>=◌, refuse, or_refuse}
 use Rattle.expr_binder.specs.Literals.{has_point}

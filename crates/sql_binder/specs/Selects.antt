@@ -2,14 +2,14 @@
 use Rattle.std.specs.Prelude.{ℕ, Bool, true, false, Option, Some, None, List, [], ◌∷◌, Ok, length, map, if◌then◌else◌}
 use Rattle.logical_plan.specs.declared.plan.Logical.{Logical}
 use Rattle.logical_plan.specs.declared.plan.Logical.TheVariants as plan
-use Rattle.sql_parser.specs.declared.ast.ExprAst.{ExprAst}
-use Rattle.sql_parser.specs.declared.ast.ItemAst.{ItemAst}
-use Rattle.sql_parser.specs.declared.ast.SelectAst.{SelectAst}
-use Rattle.sql_parser.specs.declared.ast.FromAst.TheOpen.{FromAst-F, JoinAst-F, SelectAst-F}
-use Rattle.sql_parser.specs.declared.ast.FromAst.TheFolds.{fold-SelectAst, fold-FromAst, fold-JoinAst}
-use Rattle.sql_parser.specs.declared.ast.FromAst.TheViews.{out-SelectAst}
-use Rattle.sql_parser.specs.declared.ast.FromAst.{FromAst}
-use Rattle.sql_parser.specs.declared.ast.JoinAst.{JoinAst}
+use Rattle.sql_grammar.specs.declared.ast.ExprAst.{ExprAst}
+use Rattle.sql_grammar.specs.declared.ast.ItemAst.{ItemAst}
+use Rattle.sql_grammar.specs.declared.ast.SelectAst.{SelectAst}
+use Rattle.sql_grammar.specs.declared.ast.FromAst.TheOpen.{FromAst-F, JoinAst-F, SelectAst-F}
+use Rattle.sql_grammar.specs.declared.ast.FromAst.TheFolds.{fold-SelectAst, fold-FromAst, fold-JoinAst}
+use Rattle.sql_grammar.specs.declared.ast.FromAst.TheViews.{out-SelectAst}
+use Rattle.sql_grammar.specs.declared.ast.FromAst.{FromAst}
+use Rattle.sql_grammar.specs.declared.ast.JoinAst.{JoinAst}
 use Rattle.expr_binder.specs.Scopes.{Columns}
 use Rattle.expr_binder.specs.Answer.{Answer, ◌>>=◌}
 use Rattle.expr_binder.specs.Groups.{Over}

@@ -1,7 +1,7 @@
 -- Meaning: the tables that a script declares, tested in the order of their statements, each at its place.
 use Rattle.std.specs.Prelude.{ℕ, suc, take, slice_get, Option, Some, None, not, ◌&&◌, ◌||◌, Bool, true, false, codes, List, [], ◌∷◌, ◌++◌, Ok}
 use Rattle.dfx_value.specs.declared.kind.Kind.{Kind}
-use Rattle.sql_parser.specs.declared.ast.TableAst.{TableAst}
+use Rattle.sql_grammar.specs.declared.ast.TableAst.{TableAst}
 use Rattle.expr_binder.specs.declared.refusal.Why.TheVariants as why
 use Rattle.expr_binder.specs.declared.scope.Column.{Column}
 use Rattle.expr_binder.specs.Answer.{Answer, ◌>>=◌, refuse, refuse_if}

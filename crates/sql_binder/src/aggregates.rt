@@ -10,7 +10,7 @@ use dfx_value::{AggCall, Kind, NoMemory, Seq};
 use expr_binder::{Column, Grouping, Unbound, add_calls, bind_expr, settle, tested};
 use logical_plan::Logical;
 use scalar_exprs::Expr;
-use sql_parser::ast::{ExprAst, FnAst, ItemAst, NodeAst};
+use sql_grammar::ast::{ExprAst, FnAst, ItemAst, NodeAst};
 use sqlite_items::{Boxed, Items};
 use std::alloc::Global;
 

@@ -15,7 +15,7 @@ use crate::tables::tables_tested;
 use dfx_value::{Seq, SortKey};
 use expr_binder::{Column, Unbound};
 use logical_plan::Query;
-use sql_parser::ast::{Script, SelectAst};
+use sql_grammar::ast::{Script, SelectAst};
 use std::alloc::Global;
 
 fn single<'a>(columns: &'a [Column], parts: &'a [SelectAst]) -> Option<Single<'a>>

@@ -8,7 +8,7 @@ use crate::sources::small;
 use dfx_value::{Kind, NoMemory, Seq};
 use expr_binder::{Column, Refusal, Unbound, Why, bind_expr, settle};
 use scalar_exprs::Expr;
-use sql_parser::ast::{ExprAst, NodeAst};
+use sql_grammar::ast::{ExprAst, NodeAst};
 use sqlite_items::Items;
 use std::alloc::Global;
 

@@ -13,7 +13,7 @@ use crate::sources::{is_under, is_unknown, small};
 use dfx_value::{Kind, NoMemory, Seq, Text};
 use expr_binder::{Column, Grouping, Refusal, Unbound, Why, bind_expr, column_of, settle};
 use scalar_exprs::Expr;
-use sql_parser::ast::{ExprAst, ItemAst, NodeAst};
+use sql_grammar::ast::{ExprAst, ItemAst, NodeAst};
 use sqlite_items::Items;
 use std::alloc::Global;
 

@@ -9,7 +9,7 @@ use crate::items::is_column;
 use crate::sources::{is_under, small};
 use dfx_value::{Kind, NoMemory, ParseRefused, Seq, SortKey, Text, Value, parse_value};
 use expr_binder::{Column, Refusal, Unbound, Why, same};
-use sql_parser::ast::{ExprAst, ItemAst, KeyAst, NodeAst, NumberAst};
+use sql_grammar::ast::{ExprAst, ItemAst, KeyAst, NodeAst, NumberAst};
 use std::alloc::Global;
 
 /// The one select that is ordered, whose items a key may equal.

@@ -18,7 +18,7 @@ use dfx_value::{Kind, NoMemory, Seq, Text};
 use expr_binder::{Column, Grouping, Refusal, Unbound, Why};
 use logical_plan::Logical;
 use scalar_exprs::Expr;
-use sql_parser::ast::{ExprAst, FromAst, ItemAst, JoinAst, SelectAst};
+use sql_grammar::ast::{ExprAst, FromAst, ItemAst, JoinAst, SelectAst};
 use sqlite_items::Boxed;
 use std::alloc::Global;
 

@@ -17,7 +17,7 @@ use expr_binder::{Column, Refusal, Unbound, Why, bind_expr, tested};
 use join_lowering::{Side, lower_join};
 use logical_plan::Logical;
 use scalar_exprs::Expr;
-use sql_parser::ast::ExprAst;
+use sql_grammar::ast::ExprAst;
 use sqlite_items::{Boxed, Items};
 use std::alloc::Global;
 

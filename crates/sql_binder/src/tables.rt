@@ -6,7 +6,7 @@ ghost use Rattle.sql_binder.specs.Tables as spec;
 use crate::schema::Schema;
 use dfx_value::{Kind, NoMemory, Text};
 use expr_binder::{Column, Refusal, Why};
-use sql_parser::ast::TableAst;
+use sql_grammar::ast::TableAst;
 use std::alloc::Global;
 
 fn is_among(name: &Text, names: &[Text]) -> bool

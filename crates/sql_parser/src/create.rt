@@ -1,22 +1,22 @@
 ghost use Rattle.std.specs.Prelude.{◌≡◌, [], option_map};
-ghost use Rattle.sql_parser.specs.Cursors.{Parses, lim};
-ghost use Rattle.sql_parser.specs.Grammar.{names, one};
-ghost use Rattle.sql_parser.specs.Reader.{maybe, over, too_many, up_to};
-ghost use Rattle.sql_parser.specs.Reading as spec;
-ghost use Rattle.sql_parser.specs.Trees as tree;
-ghost use Rattle.sql_parser.specs.declared.class.Class.TheVariants as class;
+ghost use Rattle.expr_parser.specs.Cursors.{Parses, lim};
+ghost use Rattle.sql_grammar.specs.Grammar.{names, one};
+ghost use Rattle.sql_grammar.specs.Reader.{maybe, over, too_many, up_to};
+ghost use Rattle.sql_grammar.specs.Reading as spec;
+ghost use Rattle.sql_grammar.specs.Trees as tree;
+ghost use Rattle.sql_grammar.specs.declared.class.Class.TheVariants as class;
 
-use crate::ast::TableAst;
-use crate::class::Class;
-use crate::cursor::{Cursor, Seen};
-use crate::expr::{MORE, past};
-use crate::halt::Halt;
-use crate::kind::type_name;
-use crate::sets::{FORMS, NAMES};
 use dfx_value::{Kind, Seq, Text};
+use expr_parser::cursor::{Cursor, Seen};
+use expr_parser::expr::{MORE, past};
+use expr_parser::halt::Halt;
+use expr_parser::kind::type_name;
+use expr_parser::sets::{FORMS, NAMES};
+use sql_grammar::ast::TableAst;
+use sql_grammar::class::Class;
 use std::alloc::Global;
 
-#[tactic(auto, unfolding(crate::specs::Reading::column))]
+#[tactic(auto, unfolding(sql_grammar::specs::Reading::column))]
 fn column(alloc: Global, cursor: &mut Cursor<'_>) -> Result<(Text, Kind), Halt>
     ensures { Parses (λ c. c) spec.column cursor.old result cursor.new }
 {
@@ -68,7 +68,7 @@ fn more_columns(
 }
 
 /// The columns in their parentheses, where there are any.
-#[tactic(auto, unfolding(crate::specs::Reading::columns_of))]
+#[tactic(auto, unfolding(sql_grammar::specs::Reading::columns_of))]
 fn columns_of(alloc: Global, cursor: &mut Cursor<'_>) -> Result<Option<Seq<(Text, Kind)>>, Halt>
     ensures { Parses (λ c. c) (maybe (one class.Open) (spec.columns_of lim.more)) cursor.old result cursor.new }
 {
@@ -82,7 +82,7 @@ fn columns_of(alloc: Global, cursor: &mut Cursor<'_>) -> Result<Option<Seq<(Text
     Ok(Some(Seq::from_vec(found)))
 }
 
-#[tactic(auto, unfolding(crate::specs::Reading::setting))]
+#[tactic(auto, unfolding(sql_grammar::specs::Reading::setting))]
 fn setting(alloc: Global, cursor: &mut Cursor<'_>) -> Result<(Text, Text), Halt>
     ensures { Parses (λ s. s) spec.setting cursor.old result cursor.new }
 {
@@ -135,7 +135,7 @@ fn more_settings(
 }
 
 /// OPTIONS, where there are any.
-#[tactic(auto, unfolding(crate::specs::Reading::settings))]
+#[tactic(auto, unfolding(sql_grammar::specs::Reading::settings))]
 fn settings(alloc: Global, cursor: &mut Cursor<'_>) -> Result<Option<Seq<(Text, Text)>>, Halt>
     ensures { Parses (λ s. s) (maybe (one class.Options) (spec.settings lim.more)) cursor.old result cursor.new }
 {
@@ -150,7 +150,7 @@ fn settings(alloc: Global, cursor: &mut Cursor<'_>) -> Result<Option<Seq<(Text, 
     Ok(Some(Seq::from_vec(found)))
 }
 
-#[tactic(auto, unfolding(crate::specs::Reading::header_row))]
+#[tactic(auto, unfolding(sql_grammar::specs::Reading::header_row))]
 fn header_row<'a>(cursor: &mut Cursor<'a>) -> Result<Option<&'a Seen<'a>>, Halt>
     ensures { Parses (option_map (λ t. t.now)) (maybe (one class.With) spec.header_row) cursor.old result cursor.new }
 {
@@ -181,7 +181,7 @@ fn is_arrow(class: Class) -> bool
 }
 
 /// A table's declaration.
-#[tactic(auto, unfolding(crate::specs::Reading::create))]
+#[tactic(auto, unfolding(sql_grammar::specs::Reading::create))]
 fn create(alloc: Global, cursor: &mut Cursor<'_>) -> Result<TableAst, Halt>
     ensures { Parses (λ t. t) (spec.create lim.more) cursor.old result cursor.new }
 {
@@ -208,7 +208,7 @@ fn create(alloc: Global, cursor: &mut Cursor<'_>) -> Result<TableAst, Halt>
     })
 }
 
-#[tactic(auto, unfolding(crate::specs::Reading::declared))]
+#[tactic(auto, unfolding(sql_grammar::specs::Reading::declared))]
 fn declared(
     alloc: Global,
     cursor: &mut Cursor<'_>,

@@ -1,28 +1,28 @@
 ghost use Rattle.std.specs.Prelude.{◌≡◌, ◌<◌, ◌≤◌, ◌^◌, ℕ, IfOk, All, Err, length, map, option_map};
 ghost use Rattle.sql_lexer.specs.Parts.{IsToken};
-ghost use Rattle.sql_parser.specs.Cursors.{Parses, lim, below};
-ghost use Rattle.sql_parser.specs.Grammar.{ScriptAt, Spells, SpellsWithin, one};
-ghost use Rattle.sql_parser.specs.Reader.{maybe, only};
-ghost use Rattle.sql_parser.specs.Reading as spec;
-ghost use Rattle.sql_parser.specs.Reading.{expr_first};
-ghost use Rattle.sql_parser.specs.Parsed.{Answers, answer, parsed, read, tokens_of};
-ghost use Rattle.sql_parser.specs.Refusals.{Gives, IsPassed, IsRefused};
-ghost use Rattle.sql_parser.specs.Trees as tree;
-ghost use Rattle.sql_parser.specs.Words.{seen};
-ghost use Rattle.sql_parser.specs.declared.ast.Script as ast;
-ghost use Rattle.sql_parser.specs.declared.class.Class.TheVariants as class;
-ghost use Rattle.sql_parser.specs.declared.refused.SyntaxRefused.TheVariants.{TooDeep, TooMany, Unexpected};
+ghost use Rattle.expr_parser.specs.Cursors.{Parses, lim, below};
+ghost use Rattle.sql_grammar.specs.Grammar.{ScriptAt, Spells, SpellsWithin, one};
+ghost use Rattle.sql_grammar.specs.Reader.{maybe, only};
+ghost use Rattle.sql_grammar.specs.Reading as spec;
+ghost use Rattle.sql_grammar.specs.Reading.{expr_first};
+ghost use Rattle.sql_grammar.specs.Parsed.{Answers, answer, parsed, read, tokens_of};
+ghost use Rattle.sql_grammar.specs.Refusals.{Gives, IsPassed, IsRefused};
+ghost use Rattle.sql_grammar.specs.Trees as tree;
+ghost use Rattle.sql_grammar.specs.Words.{seen};
+ghost use Rattle.sql_grammar.specs.declared.ast.Script as ast;
+ghost use Rattle.sql_grammar.specs.declared.class.Class.TheVariants as class;
+ghost use Rattle.sql_grammar.specs.declared.refused.SyntaxRefused.TheVariants.{TooDeep, TooMany, Unexpected};
 
-use crate::ast::{KeyAst, NumberAst, Script};
-use crate::class::{Class, same};
 use crate::create::tables_of;
-use crate::cursor::{Cursor, Seen};
-use crate::expr::{MORE, past, whole};
-use crate::halt::Halt;
-use crate::refused::SyntaxRefused;
 use crate::select::union_of;
-use crate::sets::EXPR_FIRST;
 use dfx_value::{NoMemory, Seq};
+use expr_parser::cursor::{Cursor, Seen};
+use expr_parser::expr::{MORE, past, whole};
+use expr_parser::halt::Halt;
+use expr_parser::sets::EXPR_FIRST;
+use sql_grammar::SyntaxRefused;
+use sql_grammar::ast::{KeyAst, NumberAst, Script};
+use sql_grammar::class::{Class, same};
 use sql_lexer::Token;
 use std::alloc::Global;
 
@@ -47,7 +47,7 @@ fn nulls_first(direction: Option<&Seen<'_>>, nulls: Option<&Seen<'_>>) -> bool
     }
 }
 
-#[tactic(auto, unfolding(crate::specs::Reading::nulls_order))]
+#[tactic(auto, unfolding(sql_grammar::specs::Reading::nulls_order))]
 fn nulls_order<'a>(cursor: &mut Cursor<'a>, depth: usize) -> Result<Option<&'a Seen<'a>>, Halt>
     ensures { Parses (option_map (λ t. t.now)) (maybe (one class.Nulls) (spec.nulls_order lim depth (below depth))) cursor.old result cursor.new }
 {
@@ -59,7 +59,7 @@ fn nulls_order<'a>(cursor: &mut Cursor<'a>, depth: usize) -> Result<Option<&'a S
 }
 
 /// A key of ORDER BY.
-#[tactic(auto, unfolding(crate::specs::Reading::key))]
+#[tactic(auto, unfolding(sql_grammar::specs::Reading::key))]
 fn key(alloc: Global, cursor: &mut Cursor<'_>, depth: usize) -> Result<KeyAst, Halt>
     ensures { Parses (λ k. k) (spec.key lim depth (below depth)) cursor.old result cursor.new }
 {
@@ -119,7 +119,7 @@ fn more_keys(
 }
 
 /// ORDER BY, where there is one.
-#[tactic(auto, unfolding(crate::specs::Reading::order_by))]
+#[tactic(auto, unfolding(sql_grammar::specs::Reading::order_by))]
 fn order_by(
     alloc: Global,
     cursor: &mut Cursor<'_>,
@@ -138,7 +138,7 @@ fn order_by(
 }
 
 /// A word and a number, where that word comes next.
-#[tactic(auto, unfolding(crate::specs::Reading::number))]
+#[tactic(auto, unfolding(sql_grammar::specs::Reading::number))]
 fn number(
     alloc: Global,
     cursor: &mut Cursor<'_>,
@@ -159,7 +159,7 @@ fn number(
 }
 
 /// A script, whatever follows.
-#[tactic(auto, unfolding(crate::specs::Reading::script_within))]
+#[tactic(auto, unfolding(sql_grammar::specs::Reading::script_within))]
 fn script(alloc: Global, cursor: &mut Cursor<'_>) -> Result<Script, Halt>
     ensures { Parses (λ s. s) (spec.script_at 0) cursor.old result cursor.new }
 {
@@ -206,7 +206,7 @@ fn seen_of<'a>(alloc: Global, text: &'a [u8], tokens: &[Token]) -> Result<Vec<Se
 }
 
 /// What reading tokens comes to, behind which the text ends at this place.
-#[tactic(auto, unfolding(crate::specs::Parsed::read))]
+#[tactic(auto, unfolding(sql_grammar::specs::Parsed::read))]
 fn parse_seen<'a>(alloc: Global, seen: &'a [Seen<'a>], end: u32) -> Result<Script, SyntaxRefused>
     ensures { Answers result (answer end (read seen.now)) }
 {

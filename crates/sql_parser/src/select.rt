@@ -1,19 +1,19 @@
 ghost use Rattle.std.specs.Prelude.{◌≡◌, ◌<◌, [], IfOk, option_map};
-ghost use Rattle.sql_parser.specs.Cursors.{Parses, lim, below};
-ghost use Rattle.sql_parser.specs.Grammar.{one, names};
-ghost use Rattle.sql_parser.specs.Reader.{inside, maybe, turns};
-ghost use Rattle.sql_parser.specs.Reading as spec;
-ghost use Rattle.sql_parser.specs.Reading.{called_first, expr_first, item_first, join_first};
-ghost use Rattle.sql_parser.specs.Trees as tree;
-ghost use Rattle.sql_parser.specs.declared.class.Class.TheVariants as class;
+ghost use Rattle.expr_parser.specs.Cursors.{Parses, lim, below};
+ghost use Rattle.sql_grammar.specs.Grammar.{one, names};
+ghost use Rattle.sql_grammar.specs.Reader.{inside, maybe, turns};
+ghost use Rattle.sql_grammar.specs.Reading as spec;
+ghost use Rattle.sql_grammar.specs.Reading.{called_first, expr_first, item_first, join_first};
+ghost use Rattle.sql_grammar.specs.Trees as tree;
+ghost use Rattle.sql_grammar.specs.declared.class.Class.TheVariants as class;
 
-use crate::ast::{ExprAst, FromAst, ItemAst, JoinAst, SelectAst};
-use crate::class::Class;
-use crate::cursor::{Cursor, Seen};
-use crate::expr::{MORE, past, whole};
-use crate::halt::Halt;
-use crate::sets::{CALLED_FIRST, EXPR_FIRST, ITEM_FIRST, JOIN_FIRST, NAMES, SIDES};
 use dfx_value::{JoinKind, NoMemory, Text};
+use expr_parser::cursor::{Cursor, Seen};
+use expr_parser::expr::{MORE, past, whole};
+use expr_parser::halt::Halt;
+use expr_parser::sets::{CALLED_FIRST, EXPR_FIRST, ITEM_FIRST, JOIN_FIRST, NAMES, SIDES};
+use sql_grammar::ast::{ExprAst, FromAst, ItemAst, JoinAst, SelectAst};
+use sql_grammar::class::Class;
 use sqlite_items::Items;
 use std::alloc::Global;
 
@@ -21,7 +21,7 @@ use std::alloc::Global;
 const TABLES: usize = 64;
 
 /// `[AS] name`
-#[tactic(auto, unfolding(crate::specs::Reading::called))]
+#[tactic(auto, unfolding(sql_grammar::specs::Reading::called))]
 fn called<'a>(cursor: &mut Cursor<'a>) -> Result<&'a Seen<'a>, Halt>
     ensures { Parses (λ t. t.now) spec.called cursor.old result cursor.new }
 {
@@ -61,7 +61,7 @@ fn alias_or(alloc: Global, alias: Option<&Seen<'_>>, table: &Seen<'_>) -> Result
     }
 }
 
-#[tactic(auto, unfolding(crate::specs::Reading::all_item))]
+#[tactic(auto, unfolding(sql_grammar::specs::Reading::all_item))]
 fn all_item(cursor: &mut Cursor<'_>, depth: usize) -> Result<ItemAst, Halt>
     ensures { Parses (λ i. i) (spec.all_item lim depth (below depth)) cursor.old result cursor.new }
 {
@@ -71,7 +71,7 @@ fn all_item(cursor: &mut Cursor<'_>, depth: usize) -> Result<ItemAst, Halt>
     })
 }
 
-#[tactic(auto, unfolding(crate::specs::Reading::all_of_item))]
+#[tactic(auto, unfolding(sql_grammar::specs::Reading::all_of_item))]
 fn all_of_item(alloc: Global, cursor: &mut Cursor<'_>, depth: usize) -> Result<ItemAst, Halt>
     ensures { Parses (λ i. i) (spec.all_of_item lim depth (below depth)) cursor.old result cursor.new }
 {
@@ -84,7 +84,7 @@ fn all_of_item(alloc: Global, cursor: &mut Cursor<'_>, depth: usize) -> Result<I
     })
 }
 
-#[tactic(auto, unfolding(crate::specs::Reading::one_item))]
+#[tactic(auto, unfolding(sql_grammar::specs::Reading::one_item))]
 fn one_item(alloc: Global, cursor: &mut Cursor<'_>, depth: usize) -> Result<ItemAst, Halt>
     ensures { Parses (λ i. i) (spec.one_item lim depth (below depth)) cursor.old result cursor.new }
 {
@@ -96,7 +96,7 @@ fn one_item(alloc: Global, cursor: &mut Cursor<'_>, depth: usize) -> Result<Item
     })
 }
 
-#[tactic(auto, unfolding(crate::specs::Reading::select_item, crate::specs::Reading::named_item))]
+#[tactic(auto, unfolding(sql_grammar::specs::Reading::select_item, sql_grammar::specs::Reading::named_item))]
 fn select_item(alloc: Global, cursor: &mut Cursor<'_>, depth: usize) -> Result<ItemAst, Halt>
     ensures { Parses (λ i. i) (spec.select_item lim depth (below depth)) cursor.old result cursor.new }
 {
@@ -154,7 +154,7 @@ fn more_items(
     Err(past(cursor, &ITEM_FIRST))
 }
 
-#[tactic(auto, unfolding(crate::specs::Reading::table_name))]
+#[tactic(auto, unfolding(sql_grammar::specs::Reading::table_name))]
 fn table_name(alloc: Global, cursor: &mut Cursor<'_>, depth: usize) -> Result<FromAst, Halt>
     ensures { Parses (λ f. f) (spec.table_name lim depth (below depth)) cursor.old result cursor.new }
 {
@@ -183,7 +183,7 @@ fn nested_union(
 }
 
 #[cycle(select)]
-#[tactic(auto, unfolding(crate::specs::Reading::nested))]
+#[tactic(auto, unfolding(sql_grammar::specs::Reading::nested))]
 fn nested(
     alloc: Global,
     cursor: &mut Cursor<'_>,
@@ -201,7 +201,7 @@ fn nested(
 }
 
 #[cycle(select)]
-#[tactic(auto, unfolding(crate::specs::Reading::derived_table))]
+#[tactic(auto, unfolding(sql_grammar::specs::Reading::derived_table))]
 fn derived_table(alloc: Global, cursor: &mut Cursor<'_>, depth: usize) -> Result<FromAst, Halt>
     ensures { Parses (λ f. f) (spec.derived_table lim depth (below depth)) cursor.old result cursor.new }
 {
@@ -215,7 +215,7 @@ fn derived_table(alloc: Global, cursor: &mut Cursor<'_>, depth: usize) -> Result
 }
 
 #[cycle(select)]
-#[tactic(auto, unfolding(crate::specs::Reading::from_of))]
+#[tactic(auto, unfolding(sql_grammar::specs::Reading::from_of))]
 fn from_of(alloc: Global, cursor: &mut Cursor<'_>, depth: usize) -> Result<FromAst, Halt>
     ensures { Parses (λ f. f) (spec.from_of lim depth (below depth)) cursor.old result cursor.new }
 {
@@ -235,7 +235,7 @@ fn side_of(class: Class) -> JoinKind
     }
 }
 
-#[tactic(auto, unfolding(crate::specs::Reading::join_words, crate::specs::Reading::inner_join, crate::specs::Reading::outer_join, crate::specs::Reading::plain_join))]
+#[tactic(auto, unfolding(sql_grammar::specs::Reading::join_words, sql_grammar::specs::Reading::inner_join, sql_grammar::specs::Reading::outer_join, sql_grammar::specs::Reading::plain_join))]
 fn join_words(cursor: &mut Cursor<'_>, depth: usize) -> Result<JoinKind, Halt>
     ensures { Parses (λ k. k) (spec.join_words lim depth (below depth)) cursor.old result cursor.new }
 {
@@ -254,7 +254,7 @@ fn join_words(cursor: &mut Cursor<'_>, depth: usize) -> Result<JoinKind, Halt>
     Ok(JoinKind::Inner)
 }
 
-#[tactic(auto, unfolding(crate::specs::Trees::joined))]
+#[tactic(auto, unfolding(sql_grammar::specs::Trees::joined))]
 fn joined(kind: JoinKind, right: FromAst, on: ExprAst) -> JoinAst
     ensures { result ≡ tree.joined kind right on }
 {
@@ -262,7 +262,7 @@ fn joined(kind: JoinKind, right: FromAst, on: ExprAst) -> JoinAst
 }
 
 #[cycle(select)]
-#[tactic(auto, unfolding(crate::specs::Reading::join_of))]
+#[tactic(auto, unfolding(sql_grammar::specs::Reading::join_of))]
 fn join_of(
     alloc: Global,
     cursor: &mut Cursor<'_>,
@@ -294,7 +294,7 @@ fn joins_of(alloc: Global, cursor: &mut Cursor<'_>, depth: usize) -> Result<Item
 }
 
 /// WHERE and HAVING.
-#[tactic(auto, unfolding(crate::specs::Reading::where_of))]
+#[tactic(auto, unfolding(sql_grammar::specs::Reading::where_of))]
 fn where_of(alloc: Global, cursor: &mut Cursor<'_>, depth: usize) -> Result<Option<ExprAst>, Halt>
     ensures { Parses (λ e. e) (maybe (one class.Where) (spec.where_of lim depth (below depth))) cursor.old result cursor.new }
 {
@@ -305,7 +305,7 @@ fn where_of(alloc: Global, cursor: &mut Cursor<'_>, depth: usize) -> Result<Opti
     Ok(Some(whole(alloc, cursor, depth)?))
 }
 
-#[tactic(auto, unfolding(crate::specs::Reading::having_of))]
+#[tactic(auto, unfolding(sql_grammar::specs::Reading::having_of))]
 fn having_of(alloc: Global, cursor: &mut Cursor<'_>, depth: usize) -> Result<Option<ExprAst>, Halt>
     ensures { Parses (λ e. e) (maybe (one class.Having) (spec.having_of lim depth (below depth))) cursor.old result cursor.new }
 {
@@ -361,7 +361,7 @@ fn more_groups(
     Err(past(cursor, &EXPR_FIRST))
 }
 
-#[tactic(auto, unfolding(crate::specs::Reading::group_by))]
+#[tactic(auto, unfolding(sql_grammar::specs::Reading::group_by))]
 fn group_by(
     alloc: Global,
     cursor: &mut Cursor<'_>,
@@ -398,7 +398,7 @@ fn or_none(alloc: Global, groups: Option<Items<ExprAst>>) -> Items<ExprAst>
     }
 }
 
-#[tactic(auto, unfolding(crate::specs::Trees::select_of))]
+#[tactic(auto, unfolding(sql_grammar::specs::Trees::select_of))]
 fn select_of(alloc: Global, word: &Seen<'_>, distinct: Option<&Seen<'_>>, parts: Parts) -> SelectAst
     ensures { result ≡ tree.select_of word.now (option_map (λ t. t.now) distinct.entry) parts.items parts.first parts.joins parts.test parts.groups parts.having }
 {
@@ -423,7 +423,7 @@ fn select_of(alloc: Global, word: &Seen<'_>, distinct: Option<&Seen<'_>>, parts:
 }
 
 #[cycle(select)]
-#[tactic(auto, unfolding(crate::specs::Reading::select))]
+#[tactic(auto, unfolding(sql_grammar::specs::Reading::select))]
 fn select(alloc: Global, cursor: &mut Cursor<'_>, depth: usize) -> Result<SelectAst, Halt>
     ensures { Parses (λ s. s) (spec.select lim depth (below depth)) cursor.old result cursor.new }
 {
@@ -453,7 +453,7 @@ fn select(alloc: Global, cursor: &mut Cursor<'_>, depth: usize) -> Result<Select
 }
 
 #[cycle(select)]
-#[tactic(auto, unfolding(crate::specs::Reading::united))]
+#[tactic(auto, unfolding(sql_grammar::specs::Reading::united))]
 fn united(
     alloc: Global,
     cursor: &mut Cursor<'_>,
@@ -489,7 +489,7 @@ fn more_parts(
 
 /// Selects to be united, with room for so many levels.
 #[cycle(select)]
-#[tactic(auto, unfolding(crate::specs::Reading::union_of))]
+#[tactic(auto, unfolding(sql_grammar::specs::Reading::union_of))]
 pub fn union_of(
     alloc: Global,
     cursor: &mut Cursor<'_>,

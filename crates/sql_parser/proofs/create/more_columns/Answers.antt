@@ -1,8 +1,8 @@
 use Rattle.std.proofs.Common.{◌≡◌, ◌+◌, ◌-◌, ℕ, List, sym, ◌∙◌, arith, Vec, Global}
 use Rattle.std.proofs.lemmas.Result.{err_from_is_err_and}
 use Rattle.dfx_value.specs.declared.kind.Kind.{Kind}
-use Rattle.sql_parser.specs.Grammar.{names}
-use Rattle.sql_parser.proofs.Steps.{list_end, list_next, list_stop, list_past}
+use Rattle.sql_grammar.specs.Grammar.{names}
+use Rattle.expr_parser.proofs.Steps.{list_end, list_next, list_stop, list_past}
 use Rattle.sql_parser.proofs.create.more_columns.Goals as goal
 
 pub returns-then-not-starts : goal.returns-then-not-starts

@@ -1,9 +1,9 @@
 use Rattle.std.proofs.Common.{◌≡◌, ◌-◌}
-use Rattle.sql_parser.specs.declared.class.Class.TheVariants as class
-use Rattle.sql_parser.specs.Grammar.{one, names}
-use Rattle.sql_parser.specs.Reader.{up_to}
-use Rattle.sql_parser.specs.Reading as spec
-use Rattle.sql_parser.specs.Reading.{expr_first, behind, full}
+use Rattle.sql_grammar.specs.declared.class.Class.TheVariants as class
+use Rattle.sql_grammar.specs.Grammar.{one, names}
+use Rattle.sql_grammar.specs.Reader.{up_to}
+use Rattle.sql_grammar.specs.Reading as spec
+use Rattle.sql_grammar.specs.Reading.{expr_first, behind, full}
 use Rattle.sql_parser.proofs.create.more_columns.Given as goal
 
 abbrev pub invariant-loop-turn : goal.invariant-loop-turn

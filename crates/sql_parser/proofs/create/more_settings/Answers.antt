@@ -1,8 +1,8 @@
 use Rattle.std.proofs.Common.{◌≡◌, ◌+◌, ◌-◌, ℕ, List, sym, ◌∙◌, arith, Vec, Global}
 use Rattle.std.proofs.lemmas.Result.{err_from_is_err_and}
-use Rattle.sql_parser.specs.declared.class.Class.TheVariants as class
-use Rattle.sql_parser.specs.Grammar.{one}
-use Rattle.sql_parser.proofs.Steps.{list_end, list_next, list_stop, list_past}
+use Rattle.sql_grammar.specs.declared.class.Class.TheVariants as class
+use Rattle.sql_grammar.specs.Grammar.{one}
+use Rattle.expr_parser.proofs.Steps.{list_end, list_next, list_stop, list_past}
 use Rattle.sql_parser.proofs.create.more_settings.Goals as goal
 
 pub returns-then-not-starts : goal.returns-then-not-starts

@@ -1,10 +1,10 @@
 use Rattle.std.proofs.Common.{◌≡◌, ◌+◌, ◌-◌, ℕ, List, true, refl, sym, ◌∙◌, arith, Vec, Global}
 use Rattle.std.proofs.lemmas.Result.{err_from_is_err_and}
-use Rattle.sql_parser.specs.declared.class.Class.{Class}
-use Rattle.sql_parser.specs.declared.ast.TableAst.{TableAst}
-use Rattle.sql_parser.specs.Class.{Tokens, starts}
-use Rattle.sql_parser.specs.Reader.{Read, stop, Reader, too_many, over, up_to}
-use Rattle.sql_parser.proofs.Steps.{list_end, list_next, list_stop, up_full}
+use Rattle.sql_grammar.specs.declared.class.Class.{Class}
+use Rattle.sql_grammar.specs.declared.ast.TableAst.{TableAst}
+use Rattle.sql_grammar.specs.Class.{Tokens, starts}
+use Rattle.sql_grammar.specs.Reader.{Read, stop, Reader, too_many, over, up_to}
+use Rattle.expr_parser.proofs.Steps.{list_end, list_next, list_stop, up_full}
 use Rattle.sql_parser.proofs.create.tables_of.Goals as goal
 
 over_many : {S : Type 0} (cs : List Class) (n : ℕ) (ts : Tokens) → starts cs ts ≡ true → over {A = S} too_many cs n ts ≡ stop too_many ts

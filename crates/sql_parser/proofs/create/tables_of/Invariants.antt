@@ -1,9 +1,9 @@
 use Rattle.std.proofs.Common.{◌≡◌, ◌-◌, []}
-use Rattle.sql_parser.specs.declared.class.Class.TheVariants as class
-use Rattle.sql_parser.specs.Grammar.{one}
-use Rattle.sql_parser.specs.Reader.{up_to, over, too_many}
-use Rattle.sql_parser.specs.Reading.{declared}
-use Rattle.sql_parser.specs.Cursors.{lim}
+use Rattle.sql_grammar.specs.declared.class.Class.TheVariants as class
+use Rattle.sql_grammar.specs.Grammar.{one}
+use Rattle.sql_grammar.specs.Reader.{up_to, over, too_many}
+use Rattle.sql_grammar.specs.Reading.{declared}
+use Rattle.expr_parser.specs.Cursors.{lim}
 use Rattle.sql_parser.proofs.create.tables_of.Given as goal
 
 abbrev pub invariant-loop-turn : goal.invariant-loop-turn

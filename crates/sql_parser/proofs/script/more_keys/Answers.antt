@@ -1,8 +1,8 @@
 use Rattle.std.proofs.Common.{◌≡◌, ◌+◌, ◌-◌, sym, ◌∙◌, arith, Vec, Global}
 use Rattle.std.proofs.lemmas.Result.{err_from_is_err_and}
-use Rattle.sql_parser.specs.declared.ast.KeyAst.{KeyAst}
-use Rattle.sql_parser.specs.Reading.{expr_first}
-use Rattle.sql_parser.proofs.Steps.{list_end, list_next, list_stop, list_past}
+use Rattle.sql_grammar.specs.declared.ast.KeyAst.{KeyAst}
+use Rattle.sql_grammar.specs.Reading.{expr_first}
+use Rattle.expr_parser.proofs.Steps.{list_end, list_next, list_stop, list_past}
 use Rattle.sql_parser.proofs.script.more_keys.Goals as goal
 
 pub returns-then-not-starts : goal.returns-then-not-starts

@@ -1,4 +1,4 @@
-use Rattle.sql_parser.proofs.Scripts.{answers_spelled, answers_sole, answers_only, answers_unexpected, answers_deep, answers_many}
+use Rattle.sql_grammar.proofs.Scripts.{answers_spelled, answers_sole, answers_only, answers_unexpected, answers_deep, answers_many}
 use Rattle.sql_parser.proofs.script.parse_script.Goals as goal
 
 pub returns-clause-spelled : goal.returns-clause-spelled

@@ -1,8 +1,8 @@
 use Rattle.std.proofs.Common.{◌≡◌, ◌+◌, ◌-◌, sym, ◌∙◌, arith, subst}
 use Rattle.std.proofs.lemmas.Result.{err_from_is_err_and}
-use Rattle.sql_parser.specs.Reader.{Reader}
-use Rattle.sql_parser.specs.Cursors.{Reads}
-use Rattle.sql_parser.proofs.Steps.{under_union, loop_end, loop_none, loop_next, loop_stop}
+use Rattle.sql_grammar.specs.Reader.{Reader}
+use Rattle.expr_parser.specs.Cursors.{Reads}
+use Rattle.expr_parser.proofs.Steps.{under_union, loop_end, loop_none, loop_next, loop_stop}
 use Rattle.sql_parser.proofs.select.+select.Goals as goal
 
 pub nested_union-returns : goal.nested_union-returns

@@ -1,10 +1,10 @@
 use Rattle.std.proofs.Common.{◌≡◌, ◌-◌}
-use Rattle.sql_parser.specs.declared.class.Class.TheVariants as class
-use Rattle.sql_parser.specs.Grammar.{one}
-use Rattle.sql_parser.specs.Reader.{up_to}
-use Rattle.sql_parser.specs.Reading as spec
-use Rattle.sql_parser.specs.Reading.{expr_first, item_first, join_first, behind, full}
-use Rattle.sql_parser.specs.Cursors.{lim, below}
+use Rattle.sql_grammar.specs.declared.class.Class.TheVariants as class
+use Rattle.sql_grammar.specs.Grammar.{one}
+use Rattle.sql_grammar.specs.Reader.{up_to}
+use Rattle.sql_grammar.specs.Reading as spec
+use Rattle.sql_grammar.specs.Reading.{expr_first, item_first, join_first, behind, full}
+use Rattle.expr_parser.specs.Cursors.{lim, below}
 use Rattle.sql_parser.proofs.select.more_groups.Given as goal
 
 abbrev pub invariant-loop-turn : goal.invariant-loop-turn

@@ -1,7 +1,7 @@
 use Rattle.std.proofs.Common.{◌≡◌, ◌+◌, ◌-◌, sym, ◌∙◌, arith}
 use Rattle.std.proofs.lemmas.Result.{err_from_is_err_and}
-use Rattle.sql_parser.specs.Reading.{item_first}
-use Rattle.sql_parser.proofs.Steps.{list_end, list_next, list_stop, list_past}
+use Rattle.sql_grammar.specs.Reading.{item_first}
+use Rattle.expr_parser.proofs.Steps.{list_end, list_next, list_stop, list_past}
 use Rattle.sql_parser.proofs.select.more_items.Goals as goal
 
 pub returns-then-not-starts : goal.returns-then-not-starts

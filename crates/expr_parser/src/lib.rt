@@ -1,0 +1,10 @@
+//! A cursor over the tokens of a script, and the parser of expressions.
+#![tactic(auto)]
+
+pub mod cursor;
+pub mod expr;
+pub mod halt;
+pub mod kind;
+mod level;
+mod nodes;
+pub mod sets;

@@ -1,0 +1,11 @@
+pub mod Classes
+pub mod Laws
+pub mod Turning
+pub mod Limiting
+pub mod Rules
+pub mod Clash
+pub mod Selects
+pub mod Knot
+pub mod Whole
+pub mod Scripts
+pub mod Worked

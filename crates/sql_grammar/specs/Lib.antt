@@ -1,0 +1,10 @@
+pub mod Class
+pub mod Words
+pub mod Phrase
+pub mod Steps
+pub mod Reader
+pub mod Refusals
+pub mod Trees
+pub mod Grammar
+pub mod Reading
+pub mod Parsed
