@@ -22,6 +22,22 @@ with open("sales.csv", "w", encoding="utf-8", newline="") as file:
         file.write("".join(f"{1000000000 + it}{tails[it % len(tails)]}" for it in range(start, stop)))
 MAKE
 
+# The records of that file behind its header, and where an answer is written.
+cat >sales.py <<'SALES'
+import csv, sys
+records = csv.reader(open("sales.csv", encoding="utf-8", newline=""))
+next(records)
+answer = csv.writer(sys.stdout, lineterminator="\n")
+SALES
+
+cat >sales_sqlite.sql <<'SQLITE'
+CREATE TABLE sales (id INTEGER, qty INTEGER, name TEXT, note TEXT);
+.import --csv --skip 1 sales.csv sales
+.mode list
+.separator ,
+.headers on
+SQLITE
+
 cat >usage.py <<'USAGE'
 import resource, subprocess, sys
 ended = subprocess.run(sys.argv[2:])
@@ -62,6 +78,17 @@ measure() {
 
 same() {
     cmp "$1" answer.dfx || { echo "$1 differs from the answer of dfx" >&2; exit 1; }
+}
+
+# One run each of dfx on a script, of python3 on another, and, where it is there, of sqlite3 on a select behind the import.
+measure_engines() {
+    measure dfx answer.dfx "$program" query "$1"
+    measure "python3 csv" answer.python python3 "$2"
+    same answer.python
+    if command -v sqlite3 >/dev/null; then
+        measure sqlite3 answer.sqlite sqlite3 :memory: ".read sales_sqlite.sql" ".read $3"
+        same answer.sqlite
+    fi
 }
 
 python3 make.py "$rows"

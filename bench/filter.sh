@@ -18,26 +18,17 @@ SELECT id, qty * 2 + 1 AS odd FROM sales WHERE qty > 100 AND name <> 'Chen Wei';
 SCRIPT
 
 cat >filter.py <<'SELECT'
-import csv, sys
-with open("sales.csv", encoding="utf-8", newline="") as file:
-    records = csv.reader(file)
-    next(records)
-    answer = csv.writer(sys.stdout, lineterminator="\n")
-    answer.writerow(["id", "odd"])
-    for id, qty, name, note in records:
-        if id:
-            int(id)
-        if qty and int(qty) > 100 and name and name != "Chen Wei":
-            answer.writerow([id, int(qty) * 2 + 1])
+from sales import answer, records
+answer.writerow(["id", "odd"])
+for id, qty, name, note in records:
+    if id:
+        int(id)
+    if qty and int(qty) > 100 and name and name != "Chen Wei":
+        answer.writerow([id, int(qty) * 2 + 1])
 SELECT
 
 # (an empty field that sqlite3 imports is an empty text, which is greater than any number)
 cat >filter_sqlite.sql <<'SQLITE'
-CREATE TABLE sales (id INTEGER, qty INTEGER, name TEXT, note TEXT);
-.import --csv --skip 1 sales.csv sales
-.mode list
-.separator ,
-.headers on
 SELECT id, qty * 2 + 1 AS odd FROM sales WHERE qty <> '' AND qty > 100 AND name <> '' AND name <> 'Chen Wei';
 SQLITE
 
@@ -48,13 +39,7 @@ CREATE TEMPORARY TABLE sales (id BIGINT, qty BIGINT, name TEXT, note TEXT);
 POSTGRES
 
 for _ in $(seq "$runs"); do
-    measure dfx answer.dfx "$program" query filter.sql
-    measure "python3 csv" answer.python python3 filter.py
-    same answer.python
-    if command -v sqlite3 >/dev/null; then
-        measure sqlite3 answer.sqlite sqlite3 :memory: ".read filter_sqlite.sql"
-        same answer.sqlite
-    fi
+    measure_engines filter.sql filter.py filter_sqlite.sql
     if psql -c 'SELECT 1' >/dev/null 2>&1; then
         measure PostgreSQL answer.postgres psql -q -f filter_postgres.sql
         same answer.postgres

@@ -12,43 +12,29 @@ rows=${1:-2500000}
 runs=${2:-3}
 . "$(dirname "$0")/common.sh"
 
-cat >sales.sql <<'SCRIPT'
+cat >column.sql <<'SCRIPT'
 CREATE EXTERNAL TABLE sales (id BIGINT, qty BIGINT, name VARCHAR, note VARCHAR) STORED AS CSV LOCATION 'sales.csv';
 SELECT id FROM sales;
 SCRIPT
 
 cat >column.py <<'SELECT'
-import csv, sys
-with open("sales.csv", encoding="utf-8", newline="") as file:
-    records = csv.reader(file)
-    next(records)
-    answer = csv.writer(sys.stdout, lineterminator="\n")
-    answer.writerow(["id"])
-    for id, qty, name, note in records:
-        if id:
-            int(id)
-        if qty:
-            int(qty)
-        answer.writerow([id])
+from sales import answer, records
+answer.writerow(["id"])
+for id, qty, name, note in records:
+    if id:
+        int(id)
+    if qty:
+        int(qty)
+    answer.writerow([id])
 SELECT
 
-cat >sqlite.sql <<'SQLITE'
-CREATE TABLE sales (id INTEGER, qty INTEGER, name TEXT, note TEXT);
-.import --csv --skip 1 sales.csv sales
-.mode list
-.headers on
+cat >column_sqlite.sql <<'SQLITE'
 SELECT id FROM sales;
 SQLITE
 
 for _ in $(seq "$runs"); do
-    measure dfx answer.dfx "$program" query sales.sql
+    measure_engines column.sql column.py column_sqlite.sql
     measure "wc -l" lines.txt wc -l sales.csv
-    measure "python3 csv" answer.python python3 column.py
-    same answer.python
-    if command -v sqlite3 >/dev/null; then
-        measure sqlite3 answer.sqlite sqlite3 :memory: ".read sqlite.sql"
-        same answer.sqlite
-    fi
 done
 echo "medians of $runs runs:"
 python3 table.py

@@ -23,9 +23,10 @@ use logical_plan::Query;
 use physical_build::build;
 use physical_plan::Plan;
 use sql_binder::{BindRefused, bind};
+use sql_grammar::SyntaxRefused;
 use sql_grammar::ast::Script;
 use sql_lexer::{LexRefused, Token, tokens};
-use sql_parser::{SyntaxRefused, parse_script};
+use sql_parser::parse_script;
 use std::alloc::Global;
 
 fn script_of_tokens(alloc: Global, text: &[u8], tokens: &[Token]) -> Result<Script, Failure>

@@ -1,7 +1,8 @@
 use crate::shown::show_script;
+use sql_grammar::SyntaxRefused;
 use sql_grammar::ast::Script;
 use sql_lexer::tokens;
-use sql_parser::{SyntaxRefused, parse_script};
+use sql_parser::parse_script;
 use std::rt::HostRuntime;
 use std::test::Fail;
 
