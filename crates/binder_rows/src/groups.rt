@@ -7,23 +7,23 @@ fn groups_1(rt: HostRuntime) -> Result<(), Fail> {
     for (select, wanted) in [
         (
             "SELECT COUNT(*) FROM t",
-            "c1;|Project [#0]|  FinalGroup keys=[] calls=[COUNT(*)]|    PartialGroup keys=[] calls=[COUNT(*)]|      Project []|        Scan t partitions=1 files=1",
+            "c1 BIGINT;|Project [#0]|  FinalGroup keys=[] calls=[COUNT(*)]|    PartialGroup keys=[] calls=[COUNT(*)]|      Project []|        Scan t partitions=1 files=1",
         ),
         (
             "SELECT b, COUNT(*), SUM(a), AVG(d), MIN(b), MAX(d), SUM(d), AVG(a) FROM t GROUP BY b",
-            "b;c2;c3;c4;c5;c6;c7;c8;|Project [#0, #1, #2, #3, #4, #5, #6, #7]|  FinalGroup keys=[#0] calls=[COUNT(*), SUM(#1), AVG(#2), MIN(#3), MAX(#4), SUM(#5), AVG(#6)]|    PartialGroup keys=[#0] calls=[COUNT(*), SUM(#1), AVG(#2), MIN(#3), MAX(#4), SUM(#5), AVG(#6)]|      Project [#1, #0, #2, #1, #2, #2, #0]|        Scan t partitions=1 files=1",
+            "b VARCHAR;c2 BIGINT;c3 DECIMAL(38,0);c4 DECIMAL(38,6);c5 VARCHAR;c6 DECIMAL(5,2);c7 DECIMAL(38,2);c8 DECIMAL(38,4);|Project [#0, #1, #2, #3, #4, #5, #6, #7]|  FinalGroup keys=[#0] calls=[COUNT(*), SUM(#1), AVG(#2), MIN(#3), MAX(#4), SUM(#5), AVG(#6)]|    PartialGroup keys=[#0] calls=[COUNT(*), SUM(#1), AVG(#2), MIN(#3), MAX(#4), SUM(#5), AVG(#6)]|      Project [#1, #0, #2, #1, #2, #2, #0]|        Scan t partitions=1 files=1",
         ),
         (
             "SELECT b, SUM(a) FROM t GROUP BY b HAVING SUM(a) > 3",
-            "b;c2;|Project [#0, #1]|  Filter (#1 > 3)|    FinalGroup keys=[#0] calls=[SUM(#1)]|      PartialGroup keys=[#0] calls=[SUM(#1)]|        Project [#1, #0]|          Scan t partitions=1 files=1",
+            "b VARCHAR;c2 DECIMAL(38,0);|Project [#0, #1]|  Filter (#1 > 3)|    FinalGroup keys=[#0] calls=[SUM(#1)]|      PartialGroup keys=[#0] calls=[SUM(#1)]|        Project [#1, #0]|          Scan t partitions=1 files=1",
         ),
         (
             "SELECT SUM(a), SUM(t.a), COUNT(*), SUM(a) + 1 FROM t HAVING COUNT(*) > 1 AND MAX(a) > 1",
-            "c1;c2;c3;c4;|Project [#0, #0, #1, (#0 + 1)]|  Filter ((#1 > 1) AND (#2 > 1))|    FinalGroup keys=[] calls=[SUM(#0), COUNT(*), MAX(#1)]|      PartialGroup keys=[] calls=[SUM(#0), COUNT(*), MAX(#1)]|        Project [#0, #0]|          Scan t partitions=1 files=1",
+            "c1 DECIMAL(38,0);c2 DECIMAL(38,0);c3 BIGINT;c4 DECIMAL(38,0);|Project [#0, #0, #1, (#0 + 1)]|  Filter ((#1 > 1) AND (#2 > 1))|    FinalGroup keys=[] calls=[SUM(#0), COUNT(*), MAX(#1)]|      PartialGroup keys=[] calls=[SUM(#0), COUNT(*), MAX(#1)]|        Project [#0, #0]|          Scan t partitions=1 files=1",
         ),
         (
             "SELECT a + 1, a + 1 + 2 FROM t GROUP BY a + 1",
-            "c1;c2;|Project [#0, (#0 + 2)]|  FinalGroup keys=[#0] calls=[]|    PartialGroup keys=[#0] calls=[]|      Project [(#0 + 1)]|        Scan t partitions=1 files=1",
+            "c1 BIGINT;c2 BIGINT;|Project [#0, (#0 + 2)]|  FinalGroup keys=[#0] calls=[]|    PartialGroup keys=[#0] calls=[]|      Project [(#0 + 1)]|        Scan t partitions=1 files=1",
         ),
         ("SELECT a FROM t GROUP BY a + 1", "not grouped at 207"),
         ("SELECT a FROM t GROUP BY b", "not grouped at 207"),
@@ -33,7 +33,7 @@ fn groups_1(rt: HostRuntime) -> Result<(), Fail> {
         ("SELECT SUM(b) FROM t", "kinds don't fit at 207"),
         (
             "SELECT MIN(f), MAX(b), COUNT(b) FROM t",
-            "c1;c2;c3;|Project [#0, #1, #2]|  FinalGroup keys=[] calls=[MIN(#0), MAX(#1), COUNT(#2)]|    PartialGroup keys=[] calls=[MIN(#0), MAX(#1), COUNT(#2)]|      Project [#3, #1, #1]|        Scan t partitions=1 files=1",
+            "c1 BOOLEAN;c2 VARCHAR;c3 BIGINT;|Project [#0, #1, #2]|  FinalGroup keys=[] calls=[MIN(#0), MAX(#1), COUNT(#2)]|    PartialGroup keys=[] calls=[MIN(#0), MAX(#1), COUNT(#2)]|      Project [#3, #1, #1]|        Scan t partitions=1 files=1",
         ),
     ] {
         select_is(&rt, select, wanted)?;
@@ -49,32 +49,32 @@ fn groups_2(rt: HostRuntime) -> Result<(), Fail> {
         ("SELECT 1 FROM t GROUP BY (1)", "unsupported at 226"),
         (
             "SELECT 1 + 1 FROM t GROUP BY 1 + 1",
-            "c1;|Project [#0]|  FinalGroup keys=[#0] calls=[]|    PartialGroup keys=[#0] calls=[]|      Project [(1 + 1)]|        Scan t partitions=1 files=1",
+            "c1 BIGINT;|Project [#0]|  FinalGroup keys=[#0] calls=[]|    PartialGroup keys=[#0] calls=[]|      Project [(1 + 1)]|        Scan t partitions=1 files=1",
         ),
         (
             "SELECT b FROM t GROUP BY b, b",
-            "b;|Project [#0]|  FinalGroup keys=[#0, #1] calls=[]|    PartialGroup keys=[#0, #1] calls=[]|      Project [#1, #1]|        Scan t partitions=1 files=1",
+            "b VARCHAR;|Project [#0]|  FinalGroup keys=[#0, #1] calls=[]|    PartialGroup keys=[#0, #1] calls=[]|      Project [#1, #1]|        Scan t partitions=1 files=1",
         ),
         (
             "SELECT * FROM u GROUP BY a, c, e",
-            "a;c;e;|Project [#0, #1, #2]|  FinalGroup keys=[#0, #1, #2] calls=[]|    PartialGroup keys=[#0, #1, #2] calls=[]|      Project [#0, #1, #2]|        Scan u partitions=1 files=1",
+            "a BIGINT;c VARCHAR;e DECIMAL(10,3);|Project [#0, #1, #2]|  FinalGroup keys=[#0, #1, #2] calls=[]|    PartialGroup keys=[#0, #1, #2] calls=[]|      Project [#0, #1, #2]|        Scan u partitions=1 files=1",
         ),
         ("SELECT * FROM u GROUP BY a, c", "not grouped at 207"),
         (
             "SELECT u.* FROM u GROUP BY e, c, a",
-            "a;c;e;|Project [#2, #1, #0]|  FinalGroup keys=[#0, #1, #2] calls=[]|    PartialGroup keys=[#0, #1, #2] calls=[]|      Project [#2, #1, #0]|        Scan u partitions=1 files=1",
+            "a BIGINT;c VARCHAR;e DECIMAL(10,3);|Project [#2, #1, #0]|  FinalGroup keys=[#0, #1, #2] calls=[]|    PartialGroup keys=[#0, #1, #2] calls=[]|      Project [#2, #1, #0]|        Scan u partitions=1 files=1",
         ),
         (
             "SELECT b FROM t GROUP BY t.b",
-            "b;|Project [#0]|  FinalGroup keys=[#0] calls=[]|    PartialGroup keys=[#0] calls=[]|      Project [#1]|        Scan t partitions=1 files=1",
+            "b VARCHAR;|Project [#0]|  FinalGroup keys=[#0] calls=[]|    PartialGroup keys=[#0] calls=[]|      Project [#1]|        Scan t partitions=1 files=1",
         ),
         (
             "SELECT NULL FROM t GROUP BY NULL",
-            "c1;|Project [#0]|  FinalGroup keys=[#0] calls=[]|    PartialGroup keys=[#0] calls=[]|      Project [NULL]|        Scan t partitions=1 files=1",
+            "c1 VARCHAR;|Project [#0]|  FinalGroup keys=[#0] calls=[]|    PartialGroup keys=[#0] calls=[]|      Project [NULL]|        Scan t partitions=1 files=1",
         ),
         (
             "SELECT 5 FROM t HAVING TRUE",
-            "c1;|Project [5]|  Filter true|    FinalGroup keys=[] calls=[]|      PartialGroup keys=[] calls=[]|        Project []|          Scan t partitions=1 files=1",
+            "c1 BIGINT;|Project [5]|  Filter true|    FinalGroup keys=[] calls=[]|      PartialGroup keys=[] calls=[]|        Project []|          Scan t partitions=1 files=1",
         ),
         (
             "SELECT b FROM t GROUP BY b HAVING a > 1",
@@ -96,11 +96,11 @@ fn groups_3(rt: HostRuntime) -> Result<(), Fail> {
         ("SELECT b FROM t HAVING TRUE", "not grouped at 207"),
         (
             "SELECT SUM(a + 1), a + 1 FROM t GROUP BY a + 1",
-            "c1;c2;|Project [#1, #0]|  FinalGroup keys=[#0] calls=[SUM(#1)]|    PartialGroup keys=[#0] calls=[SUM(#1)]|      Project [(#0 + 1), (#0 + 1)]|        Scan t partitions=1 files=1",
+            "c1 DECIMAL(38,0);c2 BIGINT;|Project [#1, #0]|  FinalGroup keys=[#0] calls=[SUM(#1)]|    PartialGroup keys=[#0] calls=[SUM(#1)]|      Project [(#0 + 1), (#0 + 1)]|        Scan t partitions=1 files=1",
         ),
         (
             "SELECT CASE WHEN b = 'x' THEN COUNT(*) ELSE SUM(a) END FROM t GROUP BY b",
-            "c1;|Project [CASE((#0 = 'x'): CAST(#1 AS DECIMAL(38,0)), ELSE #2)]|  FinalGroup keys=[#0] calls=[COUNT(*), SUM(#1)]|    PartialGroup keys=[#0] calls=[COUNT(*), SUM(#1)]|      Project [#1, #0]|        Scan t partitions=1 files=1",
+            "c1 DECIMAL(38,0);|Project [CASE((#0 = 'x'): CAST(#1 AS DECIMAL(38,0)), ELSE #2)]|  FinalGroup keys=[#0] calls=[COUNT(*), SUM(#1)]|    PartialGroup keys=[#0] calls=[COUNT(*), SUM(#1)]|      Project [#1, #0]|        Scan t partitions=1 files=1",
         ),
     ] {
         select_is(&rt, select, wanted)?;
@@ -113,19 +113,19 @@ fn distinct_and_unions(rt: HostRuntime) -> Result<(), Fail> {
     for (select, wanted) in [
         (
             "SELECT DISTINCT b FROM t",
-            "b;|FinalGroup keys=[#0] calls=[]|  PartialGroup keys=[#0] calls=[]|    Project [#1]|      Scan t partitions=1 files=1",
+            "b VARCHAR;|FinalGroup keys=[#0] calls=[]|  PartialGroup keys=[#0] calls=[]|    Project [#1]|      Scan t partitions=1 files=1",
         ),
         (
             "SELECT DISTINCT b, COUNT(*) FROM t GROUP BY b",
-            "b;c2;|FinalGroup keys=[#0, #1] calls=[]|  PartialGroup keys=[#0, #1] calls=[]|    Project [#0, #1]|      FinalGroup keys=[#0] calls=[COUNT(*)]|        PartialGroup keys=[#0] calls=[COUNT(*)]|          Project [#1]|            Scan t partitions=1 files=1",
+            "b VARCHAR;c2 BIGINT;|FinalGroup keys=[#0, #1] calls=[]|  PartialGroup keys=[#0, #1] calls=[]|    Project [#0, #1]|      FinalGroup keys=[#0] calls=[COUNT(*)]|        PartialGroup keys=[#0] calls=[COUNT(*)]|          Project [#1]|            Scan t partitions=1 files=1",
         ),
         (
             "SELECT a FROM t UNION ALL SELECT a FROM u",
-            "a;|UnionAll|  Project [#0]|    Scan t partitions=1 files=1|  Project [#0]|    Scan u partitions=1 files=1",
+            "a BIGINT;|UnionAll|  Project [#0]|    Scan t partitions=1 files=1|  Project [#0]|    Scan u partitions=1 files=1",
         ),
         (
             "SELECT a AS x, d FROM t UNION ALL SELECT e AS y, a FROM u",
-            "x;d;|UnionAll|  Project [CAST(#0 AS DECIMAL(38,3)), CAST(#1 AS DECIMAL(38,2))]|    Project [#0, #2]|      Scan t partitions=1 files=1|  Project [CAST(#0 AS DECIMAL(38,3)), CAST(#1 AS DECIMAL(38,2))]|    Project [#2, #0]|      Scan u partitions=1 files=1",
+            "x DECIMAL(38,3);d DECIMAL(38,2);|UnionAll|  Project [CAST(#0 AS DECIMAL(38,3)), CAST(#1 AS DECIMAL(38,2))]|    Project [#0, #2]|      Scan t partitions=1 files=1|  Project [CAST(#0 AS DECIMAL(38,3)), CAST(#1 AS DECIMAL(38,2))]|    Project [#2, #0]|      Scan u partitions=1 files=1",
         ),
         (
             "SELECT a, b FROM t UNION ALL SELECT a FROM u",
@@ -145,7 +145,7 @@ fn distinct_and_unions(rt: HostRuntime) -> Result<(), Fail> {
         ),
         (
             "SELECT x FROM (SELECT a AS x FROM t UNION ALL SELECT e FROM u) s",
-            "x;|Project [#0]|  UnionAll|    Project [CAST(#0 AS DECIMAL(38,3))]|      Project [#0]|        Scan t partitions=1 files=1|    Project [CAST(#0 AS DECIMAL(38,3))]|      Project [#2]|        Scan u partitions=1 files=1",
+            "x DECIMAL(38,3);|Project [#0]|  UnionAll|    Project [CAST(#0 AS DECIMAL(38,3))]|      Project [#0]|        Scan t partitions=1 files=1|    Project [CAST(#0 AS DECIMAL(38,3))]|      Project [#2]|        Scan u partitions=1 files=1",
         ),
     ] {
         select_is(&rt, select, wanted)?;

@@ -7,11 +7,11 @@ fn tests(rt: HostRuntime) -> Result<(), Fail> {
     for (select, wanted) in [
         (
             "SELECT a FROM t WHERE f",
-            "a;|Project [#0]|  Filter #3|    Scan t partitions=1 files=1",
+            "a BIGINT;|Project [#0]|  Filter #3|    Scan t partitions=1 files=1",
         ),
         (
             "SELECT a FROM t WHERE a > 1 AND b = 'x'",
-            "a;|Project [#0]|  Filter ((#0 > 1) AND (#1 = 'x'))|    Scan t partitions=1 files=1",
+            "a BIGINT;|Project [#0]|  Filter ((#0 > 1) AND (#1 = 'x'))|    Scan t partitions=1 files=1",
         ),
         ("SELECT a FROM t WHERE a", "kinds don't fit at 222"),
         ("SELECT a FROM t WHERE NULL", "kinds don't fit at 222"),
@@ -32,23 +32,23 @@ fn joins(rt: HostRuntime) -> Result<(), Fail> {
     for (select, wanted) in [
         (
             "SELECT t.b FROM t JOIN u ON u.a = t.a",
-            "b;|Project [#1]|  HashJoin INNER keys=[#0=#0] rest=NONE|    Scan t partitions=1 files=1|    Scan u partitions=1 files=1",
+            "b VARCHAR;|Project [#1]|  HashJoin INNER keys=[#0=#0] rest=NONE|    Scan t partitions=1 files=1|    Scan u partitions=1 files=1",
         ),
         (
             "SELECT t.b FROM t LEFT JOIN u ON t.a = u.a AND t.b = u.c",
-            "b;|Project [#1]|  HashJoin LEFT keys=[#0=#0, #1=#1] rest=NONE|    Scan t partitions=1 files=1|    Scan u partitions=1 files=1",
+            "b VARCHAR;|Project [#1]|  HashJoin LEFT keys=[#0=#0, #1=#1] rest=NONE|    Scan t partitions=1 files=1|    Scan u partitions=1 files=1",
         ),
         (
             "SELECT t.b FROM t RIGHT JOIN u ON t.a = u.a AND t.d > u.e",
-            "b;|Project [#1]|  HashJoin RIGHT keys=[#0=#0] rest=(#2 > #6)|    Scan t partitions=1 files=1|    Scan u partitions=1 files=1",
+            "b VARCHAR;|Project [#1]|  HashJoin RIGHT keys=[#0=#0] rest=(#2 > #6)|    Scan t partitions=1 files=1|    Scan u partitions=1 files=1",
         ),
         (
             "SELECT t.b FROM t FULL JOIN u ON t.a = u.a AND t.f AND u.c = 'x'",
-            "b;|Project [#1]|  HashJoin FULL keys=[#0=#0] rest=(#3 AND (#5 = 'x'))|    Scan t partitions=1 files=1|    Scan u partitions=1 files=1",
+            "b VARCHAR;|Project [#1]|  HashJoin FULL keys=[#0=#0] rest=(#3 AND (#5 = 'x'))|    Scan t partitions=1 files=1|    Scan u partitions=1 files=1",
         ),
         (
             "SELECT t.b FROM t JOIN u ON t.a + 1 = u.a AND t.b = u.c AND t.d < u.e",
-            "b;|Project [#1]|  Project [#0, #1, #2, #3, #6, #7, #8]|    HashJoin INNER keys=[#4=#3, #5=#4] rest=(#2 < #8)|      Project [#0, #1, #2, #3, (#0 + 1), #1]|        Scan t partitions=1 files=1|      Project [#0, #1, #2, #0, #1]|        Scan u partitions=1 files=1",
+            "b VARCHAR;|Project [#1]|  Project [#0, #1, #2, #3, #6, #7, #8]|    HashJoin INNER keys=[#4=#3, #5=#4] rest=(#2 < #8)|      Project [#0, #1, #2, #3, (#0 + 1), #1]|        Scan t partitions=1 files=1|      Project [#0, #1, #2, #0, #1]|        Scan u partitions=1 files=1",
         ),
         (
             "SELECT t.b FROM t JOIN u ON t.a = t.a",
@@ -69,7 +69,7 @@ fn joins(rt: HostRuntime) -> Result<(), Fail> {
         ),
         (
             "SELECT x.a FROM t x JOIN u y ON x.a = y.a JOIN t z ON z.a = y.a",
-            "a;|Project [#0]|  HashJoin INNER keys=[#4=#0] rest=NONE|    HashJoin INNER keys=[#0=#0] rest=NONE|      Scan t partitions=1 files=1|      Scan u partitions=1 files=1|    Scan t partitions=1 files=1",
+            "a BIGINT;|Project [#0]|  HashJoin INNER keys=[#4=#0] rest=NONE|    HashJoin INNER keys=[#0=#0] rest=NONE|      Scan t partitions=1 files=1|      Scan u partitions=1 files=1|    Scan t partitions=1 files=1",
         ),
         (
             "SELECT x.a FROM t x JOIN v y ON q = 1",

@@ -7,7 +7,7 @@ fn operators(rt: HostRuntime) -> Result<(), Fail> {
     for (select, wanted) in [
         (
             "SELECT a - d FROM t",
-            "c1;|Project [(#0 - #2)]|  Scan t partitions=1 files=1",
+            "c1 DECIMAL(38,2);|Project [(#0 - #2)]|  Scan t partitions=1 files=1",
         ),
         ("SELECT f + 1 FROM t", "kinds don't fit at 209"),
         ("SELECT b * 2 FROM t", "kinds don't fit at 209"),
@@ -15,22 +15,22 @@ fn operators(rt: HostRuntime) -> Result<(), Fail> {
         ("SELECT a || b FROM t", "kinds don't fit at 209"),
         (
             "SELECT b || b FROM t",
-            "c1;|Project [(#1 || #1)]|  Scan t partitions=1 files=1",
+            "c1 VARCHAR;|Project [(#1 || #1)]|  Scan t partitions=1 files=1",
         ),
         ("SELECT f = 'x' FROM t", "kinds don't fit at 209"),
         (
             "SELECT f < f FROM t",
-            "c1;|Project [(#3 < #3)]|  Scan t partitions=1 files=1",
+            "c1 BOOLEAN;|Project [(#3 < #3)]|  Scan t partitions=1 files=1",
         ),
         ("SELECT b >= a FROM t", "kinds don't fit at 209"),
         (
             "SELECT d <> 1 FROM t",
-            "c1;|Project [(#2 <> 1)]|  Scan t partitions=1 files=1",
+            "c1 BOOLEAN;|Project [(#2 <> 1)]|  Scan t partitions=1 files=1",
         ),
         ("SELECT a AND f FROM t", "kinds don't fit at 209"),
         (
             "SELECT NOT f OR f FROM t",
-            "c1;|Project [(NOT(#3) OR #3)]|  Scan t partitions=1 files=1",
+            "c1 BOOLEAN;|Project [(NOT(#3) OR #3)]|  Scan t partitions=1 files=1",
         ),
     ] {
         select_is(&rt, select, wanted)?;
@@ -44,13 +44,13 @@ fn calls_and_casts(rt: HostRuntime) -> Result<(), Fail> {
         ("SELECT LENGTH(f) FROM t", "kinds don't fit at 207"),
         (
             "SELECT ABS(a), ABS(-d) FROM t",
-            "c1;c2;|Project [ABS(#0), ABS(NEG(#2))]|  Scan t partitions=1 files=1",
+            "c1 BIGINT;c2 DECIMAL(5,2);|Project [ABS(#0), ABS(NEG(#2))]|  Scan t partitions=1 files=1",
         ),
         ("SELECT ABS(f) FROM t", "kinds don't fit at 207"),
         ("SELECT -f FROM t", "kinds don't fit at 207"),
         (
             "SELECT CAST(d AS DECIMAL(3,1)) FROM t",
-            "c1;|Project [CAST(#2 AS DECIMAL(3,1))]|  Scan t partitions=1 files=1",
+            "c1 DECIMAL(3,1);|Project [CAST(#2 AS DECIMAL(3,1))]|  Scan t partitions=1 files=1",
         ),
         (
             "SELECT CAST(f AS DECIMAL(3,1)) FROM t",
@@ -59,11 +59,11 @@ fn calls_and_casts(rt: HostRuntime) -> Result<(), Fail> {
         ("SELECT CAST(d AS BOOLEAN) FROM t", "kinds don't fit at 207"),
         (
             "SELECT CAST(NULL AS BIGINT) FROM t",
-            "c1;|Project [CAST(NULL AS BIGINT)]|  Scan t partitions=1 files=1",
+            "c1 BIGINT;|Project [CAST(NULL AS BIGINT)]|  Scan t partitions=1 files=1",
         ),
         (
             "SELECT COALESCE(NULL, a) FROM t",
-            "c1;|Project [COALESCE(NULL, #0)]|  Scan t partitions=1 files=1",
+            "c1 BIGINT;|Project [COALESCE(NULL, #0)]|  Scan t partitions=1 files=1",
         ),
         ("SELECT COALESCE(f, 1) FROM t", "kinds don't fit at 207"),
         (
@@ -72,7 +72,7 @@ fn calls_and_casts(rt: HostRuntime) -> Result<(), Fail> {
         ),
         (
             "SELECT CASE WHEN f THEN b END FROM t",
-            "c1;|Project [CASE(#3: #1, ELSE NULL)]|  Scan t partitions=1 files=1",
+            "c1 VARCHAR;|Project [CASE(#3: #1, ELSE NULL)]|  Scan t partitions=1 files=1",
         ),
     ] {
         select_is(&rt, select, wanted)?;
@@ -85,7 +85,7 @@ fn clauses(rt: HostRuntime) -> Result<(), Fail> {
     for (select, wanted) in [
         (
             "SELECT a FROM t WHERE f",
-            "a;|Project [#0]|  Filter #3|    Scan t partitions=1 files=1",
+            "a BIGINT;|Project [#0]|  Filter #3|    Scan t partitions=1 files=1",
         ),
         ("SELECT a FROM t WHERE a", "kinds don't fit at 222"),
         ("SELECT a FROM t WHERE q = 1", "unknown column at 222"),
@@ -93,15 +93,15 @@ fn clauses(rt: HostRuntime) -> Result<(), Fail> {
         ("SELECT a FROM t WHERE NULL", "kinds don't fit at 222"),
         (
             "SELECT a FROM (SELECT a FROM t WHERE f) s WHERE a > 1",
-            "a;|Project [#0]|  Filter (#0 > 1)|    Project [#0]|      Filter #3|        Scan t partitions=1 files=1",
+            "a BIGINT;|Project [#0]|  Filter (#0 > 1)|    Project [#0]|      Filter #3|        Scan t partitions=1 files=1",
         ),
         (
             "SELECT DISTINCT b FROM t",
-            "b;|FinalGroup keys=[#0] calls=[]|  PartialGroup keys=[#0] calls=[]|    Project [#1]|      Scan t partitions=1 files=1",
+            "b VARCHAR;|FinalGroup keys=[#0] calls=[]|  PartialGroup keys=[#0] calls=[]|    Project [#1]|      Scan t partitions=1 files=1",
         ),
         (
             "SELECT a FROM t LIMIT 0",
-            "a;|Limit skip=0 fetch=0|  Project [#0]|    Scan t partitions=1 files=1",
+            "a BIGINT;|Limit skip=0 fetch=0|  Project [#0]|    Scan t partitions=1 files=1",
         ),
         ("SELECT a FROM t LIMIT 1.5", "limit out of range at 222"),
         (
@@ -110,11 +110,11 @@ fn clauses(rt: HostRuntime) -> Result<(), Fail> {
         ),
         (
             "SELECT a FROM t LIMIT 9223372036854775807 OFFSET 2",
-            "a;|Limit skip=2 fetch=9223372036854775807|  Project [#0]|    Scan t partitions=1 files=1",
+            "a BIGINT;|Limit skip=2 fetch=9223372036854775807|  Project [#0]|    Scan t partitions=1 files=1",
         ),
         (
             "SELECT a FROM t ORDER BY a ASC NULLS FIRST",
-            "a;|Sort [#0 ASC NULLS FIRST]|  Project [#0]|    Scan t partitions=1 files=1",
+            "a BIGINT;|Sort [#0 ASC NULLS FIRST]|  Project [#0]|    Scan t partitions=1 files=1",
         ),
     ] {
         select_is(&rt, select, wanted)?;
@@ -127,12 +127,12 @@ fn groups_unions_joins(rt: HostRuntime) -> Result<(), Fail> {
     for (select, wanted) in [
         (
             "SELECT b, MAX(a) FROM t GROUP BY b",
-            "b;c2;|Project [#0, #1]|  FinalGroup keys=[#0] calls=[MAX(#1)]|    PartialGroup keys=[#0] calls=[MAX(#1)]|      Project [#1, #0]|        Scan t partitions=1 files=1",
+            "b VARCHAR;c2 BIGINT;|Project [#0, #1]|  FinalGroup keys=[#0] calls=[MAX(#1)]|    PartialGroup keys=[#0] calls=[MAX(#1)]|      Project [#1, #0]|        Scan t partitions=1 files=1",
         ),
         ("SELECT a FROM t GROUP BY b", "not grouped at 207"),
         (
             "SELECT MIN(f), MAX(b) FROM t",
-            "c1;c2;|Project [#0, #1]|  FinalGroup keys=[] calls=[MIN(#0), MAX(#1)]|    PartialGroup keys=[] calls=[MIN(#0), MAX(#1)]|      Project [#3, #1]|        Scan t partitions=1 files=1",
+            "c1 BOOLEAN;c2 VARCHAR;|Project [#0, #1]|  FinalGroup keys=[] calls=[MIN(#0), MAX(#1)]|    PartialGroup keys=[] calls=[MIN(#0), MAX(#1)]|      Project [#3, #1]|        Scan t partitions=1 files=1",
         ),
         ("SELECT SUM(b) FROM t", "kinds don't fit at 207"),
         ("SELECT AVG(f) FROM t", "kinds don't fit at 207"),
@@ -152,7 +152,7 @@ fn groups_unions_joins(rt: HostRuntime) -> Result<(), Fail> {
         ),
         (
             "SELECT d FROM t UNION ALL SELECT e FROM u",
-            "d;|UnionAll|  Project [CAST(#0 AS DECIMAL(38,3))]|    Project [#2]|      Scan t partitions=1 files=1|  Project [CAST(#0 AS DECIMAL(38,3))]|    Project [#2]|      Scan u partitions=1 files=1",
+            "d DECIMAL(38,3);|UnionAll|  Project [CAST(#0 AS DECIMAL(38,3))]|    Project [#2]|      Scan t partitions=1 files=1|  Project [CAST(#0 AS DECIMAL(38,3))]|    Project [#2]|      Scan u partitions=1 files=1",
         ),
         (
             "SELECT t.a FROM t JOIN u ON t.a > u.a",

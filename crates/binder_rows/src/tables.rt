@@ -15,11 +15,11 @@ fn one_table(rt: HostRuntime) -> Result<(), Fail> {
         ),
         (
             "CREATE EXTERNAL TABLE t (a BIGINT) STORED AS CSV LOCATION 'p' OPTIONS ('has_header' 'true'); SELECT 1 FROM t",
-            "c1;|Project [1]|  Scan t partitions=1 files=1",
+            "c1 BIGINT;|Project [1]|  Scan t partitions=1 files=1",
         ),
         (
             "CREATE EXTERNAL TABLE t (a BIGINT) STORED AS CSV LOCATION 'p' OPTIONS ('format.has_header' 'true', 'has_header' 'true'); SELECT 1 FROM t",
-            "c1;|Project [1]|  Scan t partitions=1 files=1",
+            "c1 BIGINT;|Project [1]|  Scan t partitions=1 files=1",
         ),
         (
             "CREATE EXTERNAL TABLE t (a BIGINT) STORED AS CSV LOCATION 'p' OPTIONS ('has_header' 'false'); SELECT 1 FROM t",
@@ -39,7 +39,7 @@ fn one_table(rt: HostRuntime) -> Result<(), Fail> {
         ),
         (
             "CREATE EXTERNAL TABLE t (a BIGINT, \"A\" VARCHAR) STORED AS CSV LOCATION 'p'; SELECT 1 FROM t",
-            "c1;|Project [1]|  Scan t partitions=1 files=1",
+            "c1 BIGINT;|Project [1]|  Scan t partitions=1 files=1",
         ),
     ] {
         script_is(&rt, script, wanted)?;
@@ -64,7 +64,7 @@ fn two_tables(rt: HostRuntime) -> Result<(), Fail> {
         ),
         (
             "CREATE EXTERNAL TABLE t (a BIGINT) STORED AS CSV LOCATION 'p'; CREATE EXTERNAL TABLE u (b BIGINT) STORED AS CSV LOCATION 'q'; SELECT b FROM u",
-            "b;|Project [#0]|  Scan u partitions=1 files=1",
+            "b BIGINT;|Project [#0]|  Scan u partitions=1 files=1",
         ),
     ] {
         script_is(&rt, script, wanted)?;
