@@ -124,15 +124,22 @@ fn push_plan(alloc: Global, shown: &mut String, query: &Query) -> Result<(), Fai
     push_lines(shown, text.as_slice())
 }
 
+fn push_named(alloc: Global, shown: &mut String, query: &Query) -> Result<(), Fail> {
+    let kinds = kinds_of(alloc, &query.body)?;
+    push_columns(alloc, shown, query.names.as_slice(), kinds.as_slice())
+}
+
+/// The names of a query's columns with their kinds, and its plan.
+fn shown_query(alloc: Global, query: &Query) -> Result<String, Fail> {
+    let mut shown = String::new(alloc);
+    push_named(alloc, &mut shown, query)?;
+    push_plan(alloc, &mut shown, query)?;
+    Ok(shown)
+}
+
 fn show(alloc: Global, script: &[u8]) -> Result<String, Fail> {
     match bound(alloc, script)? {
-        Ok(query) => {
-            let mut shown = String::new(alloc);
-            let kinds = kinds_of(alloc, &query.body)?;
-            push_columns(alloc, &mut shown, query.names.as_slice(), kinds.as_slice())?;
-            push_plan(alloc, &mut shown, &query)?;
-            Ok(shown)
-        }
+        Ok(query) => shown_query(alloc, &query),
         Err(refused) => Ok(format!(in alloc; "{refused}")?),
     }
 }
