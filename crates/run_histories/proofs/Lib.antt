@@ -1,0 +1,9 @@
+pub mod Lists
+pub mod Channels
+pub mod Changes
+pub mod Ways
+pub mod Made
+pub mod Told
+pub mod Reserved
+pub mod Laws
+pub mod Worked
