@@ -1,0 +1,11 @@
+pub mod Fronts
+pub mod Desks
+pub mod Polls
+pub mod Wholes
+pub mod Turns
+pub mod Endings
+pub mod Deliveries
+pub mod Runs
+pub mod OperatorKinds
+pub mod Merges
+pub mod Worked

@@ -1,0 +1,144 @@
+-- The worked runs of the README, computed from the definitions.
+use Rattle.std.proofs.Common.{ℕ, ◌+◌, ◌≡◌, ◌&&◌, not, refl, List, [], ◌∷◌, length, map, Option, Some, None, Bool, true, false, cond, eqb, Ok}
+use Rattle.dfx_value.specs.declared.value.Value.TheVariants as value
+use Rattle.run_journal.specs.declared.entry.Entry.{Entry}
+use Rattle.run_journal.specs.declared.entry.EntryKind.{EntryKind}
+use Rattle.run_journal.specs.declared.entry.EntryKind.TheVariants.{Claimed, Scanned, Received, Empty, Ended as EndedKind, Sent, Held, Granted, Refused as RefusedKind, Freed, Wrote, Finished}
+use Rattle.gate_channels.specs.Gate.{sent, received, ended, awaited, dropped, held}
+use Rattle.fair_pool.specs.Share.{share_of, grants}
+use Rattle.core_frame.specs.Shape.{Shape}
+use Rattle.core_frame.specs.Step.{Need, Scan, Grow, Free, Writes, wake, put_gate, with_pool, move_to, progress_is, failed}
+use Rattle.run_histories.specs.Histories.{past_of, begun}
+use Rattle.task_trees.specs.Operators.{Cells, Item, Op}
+use Rattle.task_trees.specs.OperatorKinds.{end_op, merge}
+use Rattle.task_trees.specs.Trees.{Tree, Nothing, Files, Inlet, Node}
+use Rattle.task_trees.specs.Tasks.{Split, Task}
+use Rattle.task_trees.specs.Runs.{State, the_task, state_replay}
+
+by : ℕ → EntryKind → Entry
+by t k = record { worker = 0; task = t; kind = k }
+
+-- a row of one cell
+row : Bool → Cells
+row b = value.Bool b ∷ []
+
+output_of : ℕ → Option State → List Cells
+output_of t None = []
+output_of t (Some s) = (the_task s.tasks t).output
+
+needs_of : ℕ → Option State → List (Need (List Cells))
+needs_of t None = []
+needs_of t (Some s) = map (λ x. x.0) (past_of s.run.pasts t)
+
+-- ------------------------------------------------------------ a Coalesce over the scans of two files
+
+two_scans : Shape
+two_scans = record {
+  tasks = record { stage = 0; sends = None; targets = []; receives = (1, 0) ∷ []; consumers = [] }
+      ∷ record { stage = 1; sends = Some 1; targets = 0 ∷ []; receives = []; consumers = [] }
+      ∷ record { stage = 1; sends = Some 1; targets = 0 ∷ []; receives = []; consumers = [] } ∷ [];
+  widths = 0 ∷ 1 ∷ [];
+  spillable = [];
+}
+
+-- each batch goes whole to channel 0
+to_first : Split
+to_first j b = (0, b) ∷ []
+
+scan_of : List Item → ℕ → Task
+scan_of file source = record { tree = Files file source (file ∷ []) [] []; header = false; split = Some to_first; batches = 0; parts = []; leaving = false; output = [] }
+
+root : Task
+root = record { tree = Inlet 1 0 [] [] false; header = true; split = None; batches = 0; parts = []; leaving = false; output = [] }
+
+two_scans_start : State
+two_scans_start = record { run = begun two_scans 1000; tasks = root ∷ scan_of (Ok (row true) ∷ []) 0 ∷ scan_of (Ok (row false) ∷ []) 1 ∷ [] }
+
+two_scans_run : List Entry
+two_scans_run =
+    by 0 Claimed ∷ by 0 Wrote ∷ by 0 Empty
+    ∷ by 1 Claimed ∷ by 1 Scanned ∷ by 1 Sent ∷ by 1 Finished
+    ∷ by 2 Claimed ∷ by 2 Scanned ∷ by 2 Held
+    ∷ by 0 Claimed ∷ by 0 Received ∷ by 0 Wrote ∷ by 0 Empty
+    ∷ by 2 Claimed ∷ by 2 Sent ∷ by 2 Finished
+    ∷ by 0 Claimed ∷ by 0 Received ∷ by 0 Wrote ∷ by 0 EndedKind ∷ by 0 Finished ∷ []
+
+-- the entries alone lead to the rows that are written
+two_scans_output : output_of 0 (state_replay two_scans 2 10 (Some two_scans_start) two_scans_run) ≡ row true ∷ row false ∷ []
+unfolding two_scans two_scans_start two_scans_run root scan_of to_first row by output_of sent received ended awaited held dropped wake put_gate with_pool move_to progress_is failed
+two_scans_output = refl
+
+-- and an entry of another kind than the need's leads nowhere: task 1 reads before it sends
+no_early_send : output_of 0 (state_replay two_scans 2 10 (Some two_scans_start) (by 1 Claimed ∷ by 1 Sent ∷ [])) ≡ []
+unfolding two_scans two_scans_start root scan_of to_first row by output_of sent received ended awaited held dropped wake put_gate with_pool move_to progress_is failed
+no_early_send = refl
+
+-- ------------------------------------------------------------ a sort that spills
+
+one_sort : Shape
+one_sort = record { tasks = record { stage = 0; sends = None; targets = []; receives = []; consumers = 0 ∷ [] } ∷ []; widths = 0 ∷ []; spillable = true ∷ [] }
+
+-- the rows in the order taken, after the end; each takes 4 bytes
+kept_rows : Op
+kept_rows = end_op (λ items. items) (λ _ rows. length rows + length rows + length rows + length rows) (Some 0)
+
+file : List Item
+file = Ok (row true) ∷ Ok (row false) ∷ Ok (row true) ∷ []
+
+-- of this node's inputs only the first is one
+below : Tree → ℕ → Tree
+below x i = cond (eqb i 0) x Nothing
+
+sort_task : Task
+sort_task = record {
+  tree = Node kept_rows (record { kinds = λ _. []; taken = λ _. []; closed = []; since = []; ended = λ _. false }) (record { gave = []; offered = []; refused = false; held = 0 }) (below (Files file 0 (file ∷ []) [] []));
+  header = true;
+  split = None;
+  batches = 0;
+  parts = [];
+  leaving = false;
+  output = [];
+}
+
+one_sort_start : State
+one_sort_start = record { run = begun one_sort 8; tasks = sort_task ∷ [] }
+
+-- three rows of 4 bytes, two a batch, under a limit of 8
+one_sort_run : List Entry
+one_sort_run =
+    by 0 Claimed ∷ by 0 Wrote ∷ by 0 Scanned ∷ by 0 Granted ∷ by 0 Scanned ∷ by 0 RefusedKind
+    ∷ by 0 Freed ∷ by 0 Granted ∷ by 0 Wrote ∷ by 0 Wrote ∷ by 0 Finished ∷ []
+
+one_sort_needs : needs_of 0 (state_replay one_sort 2 10 (Some one_sort_start) one_sort_run) ≡ Writes ∷ Scan ∷ Grow 0 8 ∷ Scan ∷ Grow 0 4 ∷ Free 0 8 ∷ Grow 0 4 ∷ Writes ∷ Writes ∷ []
+unfolding one_sort one_sort_start one_sort_run sort_task kept_rows below file row by needs_of wake put_gate with_pool move_to progress_is failed share_of grants
+one_sort_needs = refl
+
+one_sort_output : output_of 0 (state_replay one_sort 2 10 (Some one_sort_start) one_sort_run) ≡ row true ∷ row false ∷ row true ∷ []
+unfolding one_sort one_sort_start one_sort_run sort_task kept_rows below file row by output_of wake put_gate with_pool move_to progress_is failed share_of grants
+one_sort_output = refl
+
+-- ------------------------------------------------------------ a merge
+
+pair : Bool → Bool → Item
+pair a b = Ok (value.Bool a ∷ value.Bool b ∷ [])
+
+first_cell : Item → Bool
+first_cell (Ok (value.Bool a ∷ cells)) = a
+first_cell _ = true
+
+-- by the first column, false before true
+earlier : Item → Item → Bool
+earlier x y = not (first_cell x) && first_cell y
+
+two_inputs : ℕ → List Item
+two_inputs i = cond (eqb i 0) (pair true true ∷ []) (pair false false ∷ pair true false ∷ [])
+
+-- of two with the same first column, that of the lower input comes first
+merged_whole : (merge earlier 2 two_inputs (λ _. true)).given ≡ pair false false ∷ pair true true ∷ pair true false ∷ []
+unfolding two_inputs earlier first_cell pair
+merged_whole = refl
+
+-- while input 0 goes on, nothing is known after its last row
+merged_so_far : (merge earlier 2 two_inputs (λ i. eqb i 1)).given ≡ pair false false ∷ pair true true ∷ []
+unfolding two_inputs earlier first_cell pair
+merged_so_far = refl
