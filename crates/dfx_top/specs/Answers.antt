@@ -1,6 +1,6 @@
 -- Meaning: what a command wrote, by what was asked and how it ended. `all` are the contents of the files, `before` and `now` what the
 -- sink had taken at the call and at its end.
-use Rattle.std.specs.Prelude.{⊥, ℕ, ◌≡◌, ◌⊎◌, ◌++◌, List, Option, Some, None, Result, Ok, Err}
+use Rattle.std.specs.Prelude.{ℕ, ◌≡◌, ◌⊎◌, ◌++◌, List, Option, Some, None, Result, Ok, Err}
 use Rattle.dfx_outside.specs.Bytes.{EndsInFront}
 use Rattle.dfx_outside.specs.Contents.{Contents}
 use Rattle.dfx_value.specs.declared.fault.ItemFault.TheVariants.{Evaluation}
