@@ -24,7 +24,7 @@ use Rattle.task_trees.proofs.Endings.{sends_inside, all_finished}
 
 -- ------------------------------------------------------------ parts
 
-for-append : (c : ℕ) (xs ys : Parts) → for_channel c (xs ++ ys) ≡ for_channel c xs ++ for_channel c ys
+pub for-append : (c : ℕ) (xs ys : Parts) → for_channel c (xs ++ ys) ≡ for_channel c xs ++ for_channel c ys
 for-append c [] ys = refl
 for-append c (x ∷ xs) ys = ap (λ l. cond (eqb x.0 c) (x.1 ∷ []) [] ++ l) (for-append c xs ys) ∙ sym (append_assoc (cond {A = List (List Cells)} (eqb x.0 c) (x.1 ∷ []) []) (for_channel c xs) (for_channel c ys))
 

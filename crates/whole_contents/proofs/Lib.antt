@@ -1,0 +1,4 @@
+pub mod Bags
+pub mod Flows
+pub mod Exchanges
+pub mod SenderKinds

@@ -1,0 +1,8 @@
+use Rattle.whole_contents.proofs.Exchanges
+use Rattle.whole_contents.proofs.law.exchange_law.Goals as goal
+
+pub returns-clause-exchanged : goal.returns-clause-exchanged
+returns-clause-exchanged c = λ p size limit start s entries deal full shape starts reached senders all w g. Exchanges.exchanged p shape size limit start s entries starts reached deal senders full all w g
+
+pub returns-clause-single : goal.returns-clause-single
+returns-clause-single c = λ p size limit start s entries deal full shape starts reached senders all u g c one. Exchanges.only_sender p shape size limit start s entries starts reached deal senders full all u g c one

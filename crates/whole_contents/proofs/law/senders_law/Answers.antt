@@ -1,0 +1,11 @@
+use Rattle.whole_contents.proofs.SenderKinds
+use Rattle.whole_contents.proofs.law.senders_law.Goals as goal
+
+pub returns-clause-batches : goal.returns-clause-batches
+returns-clause-batches c = λ p u g to home there inside. SenderKinds.whole_sender p u g to home there inside
+
+pub returns-clause-rows : goal.returns-clause-rows
+returns-clause-rows c = λ p u g n number small some wide out. SenderKinds.hash_sender number p u g n small some wide out
+
+pub returns-clause-numbered : goal.returns-clause-numbered
+returns-clause-numbered c = λ number n at. SenderKinds.hash_only number n at

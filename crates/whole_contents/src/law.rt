@@ -1,0 +1,78 @@
+ghost use Rattle.std.specs.Prelude.{ℕ, ◌<◌, ◌≤◌, ◌≡◌, Bool, true, false, Some, List};
+ghost use Rattle.std.specs.List.{sum_by, AllPass};
+ghost use Rattle.run_journal.specs.declared.entry.Entry.{Entry};
+ghost use Rattle.core_frame.specs.Shape.{Shape, IsShape, task_at, has, is_group, width};
+ghost use Rattle.task_trees.specs.Operators.{Cells, Item, of_rows};
+ghost use Rattle.task_trees.specs.Trees.{gave_of};
+ghost use Rattle.task_trees.specs.Linked.{whole, IsFlow, IsWhole};
+ghost use Rattle.task_trees.specs.Tasks.{Split};
+ghost use Rattle.task_trees.specs.Runs.{State, the_task, IsStart, IsReached};
+ghost use Rattle.whole_contents.specs.Bags.{sum_below};
+ghost use Rattle.whole_contents.specs.Senders.{Deal, IsSender, AreSenders, SendsOnly, IsOnlySender};
+ghost use Rattle.whole_contents.specs.SenderKinds.{whole_split, home_deal, hash_split, hash_deal, is_at};
+ghost use Rattle.whole_contents.specs.Whole.{past_in, tree_in, AreFull, given_weight};
+
+/// In each state that entries reach from the start of a run of tasks, its channels have whole contents (`exist`).
+///
+/// Of these is read what each task took (`flow`); so what its tree gave is a front of what it would give of whole channels, and all
+/// of it where it ends (`whole`).
+pub fn full_law()
+    ensures exist { (p : Shape) (size limit : ℕ) (start s : State) (entries : List Entry) (deal : ℕ → Deal)
+        → IsShape p → IsStart p size limit start → IsReached p size limit start entries s
+        → (full : ℕ → ℕ → List Item) × AreFull p s deal full }
+    ensures flow { (p : Shape) (size limit : ℕ) (start s : State) (entries : List Entry) (deal : ℕ → Deal) (full : ℕ → ℕ → List Item)
+        → IsShape p → IsStart p size limit start → IsReached p size limit start entries s → AreSenders p start.tasks deal
+        → AreFull p s deal full → (t : ℕ) → IsFlow (past_in s t) full (tree_in s t) }
+    ensures whole { (p : Shape) (size limit : ℕ) (start s : State) (entries : List Entry) (deal : ℕ → Deal) (full : ℕ → ℕ → List Item)
+        → IsShape p → IsStart p size limit start → IsReached p size limit start entries s → AreSenders p start.tasks deal
+        → AreFull p s deal full → (t : ℕ) → IsWhole size full (tree_in s t) }
+{}
+
+/// The channels of a group share what its senders would give: of each weight of items, their whole contents have together what
+/// the senders' trees would give of whole channels (`exchanged`).
+///
+/// A channel with one sender that sends all there has what that task would give, in order (`single`).
+pub fn exchange_law()
+    ensures exchanged { (p : Shape) (size limit : ℕ) (start s : State) (entries : List Entry) (deal : ℕ → Deal) (full : ℕ → ℕ → List Item)
+        → IsShape p → IsStart p size limit start → IsReached p size limit start entries s → AreSenders p start.tasks deal
+        → AreFull p s deal full
+        → (w : Item → ℕ) (g : ℕ) → sum_below (width p g) (λ c. sum_by w (full g c)) ≡ given_weight p s full w g }
+    ensures single { (p : Shape) (size limit : ℕ) (start s : State) (entries : List Entry) (deal : ℕ → Deal) (full : ℕ → ℕ → List Item)
+        → IsShape p → IsStart p size limit start → IsReached p size limit start entries s → AreSenders p start.tasks deal
+        → AreFull p s deal full
+        → (u g c : ℕ) → IsOnlySender p start.tasks deal u g c → full g c ≡ whole full (tree_in s u) }
+{}
+
+/// What a test of items passes at channels: what passes it at all senders of the group (`all`), and what passes it at the parts
+/// and shares for that channel (`at`). And what a tree gave passes what it would give passes (`gave`).
+pub fn test_law()
+    ensures all { (p : Shape) (size limit : ℕ) (start s : State) (entries : List Entry) (deal : ℕ → Deal) (full : ℕ → ℕ → List Item)
+        → IsShape p → IsStart p size limit start → IsReached p size limit start entries s → AreSenders p start.tasks deal
+        → AreFull p s deal full
+        → (test : Item → Bool) (g : ℕ)
+        → ((u : ℕ) → is_group (task_at p u).sends g ≡ true → AllPass test (whole full (tree_in s u)))
+        → (c : ℕ) → c < width p g → AllPass test (full g c) }
+    ensures at { (p : Shape) (size limit : ℕ) (start s : State) (entries : List Entry) (deal : ℕ → Deal) (full : ℕ → ℕ → List Item)
+        → IsShape p → IsStart p size limit start → IsReached p size limit start entries s → AreSenders p start.tasks deal
+        → AreFull p s deal full
+        → (test : Item → Bool) (g c : ℕ) → c < width p g
+        → ((u : ℕ) (split : Split) → is_group (task_at p u).sends g ≡ true → (the_task start.tasks u).split ≡ Some split
+        → SendsOnly test c split (deal u))
+        → AllPass test (full g c) }
+    ensures gave { (p : Shape) (size limit : ℕ) (start s : State) (entries : List Entry) (deal : ℕ → Deal) (full : ℕ → ℕ → List Item)
+        → IsShape p → IsStart p size limit start → IsReached p size limit start entries s → AreSenders p start.tasks deal
+        → AreFull p s deal full
+        → (test : Item → Bool) (u : ℕ) → AllPass test (whole full (tree_in s u)) → AllPass test (of_rows (gave_of (tree_in s u))) }
+{}
+
+/// Two kinds of senders owe what a sender has to: those whose batches go whole to one channel each, by their number (`batches`),
+/// where what they would still give goes to any one of their targets; and those that send each row to the channel of its number
+/// (`rows`), so that a channel gets only rows of its own number (`numbered`).
+pub fn senders_law()
+    ensures batches { (p : Shape) (u g : ℕ) (to : ℕ → ℕ) (home : ℕ) → has (task_at p u).targets home ≡ true → home < width p g
+        → IsSender p u g (whole_split to) (home_deal home) }
+    ensures rows { (p : Shape) (u g n : ℕ) (number : Cells → ℕ) → ((row : Cells) → number row < n) → 0 < n → width p g ≡ n
+        → ((c : ℕ) → has (task_at p u).targets c ≡ false → n ≤ c)
+        → IsSender p u g (hash_split number n) (hash_deal number) }
+    ensures numbered { (number : Cells → ℕ) (n c : ℕ) → SendsOnly (is_at number c) c (hash_split number n) (hash_deal number) }
+{}

@@ -1,0 +1,6 @@
+//! Whole contents of a run's channels: what would have been sent and taken, had everybody gone on.
+#![tactic(auto)]
+
+mod law;
+
+pub use law::{exchange_law, full_law, senders_law, test_law};
