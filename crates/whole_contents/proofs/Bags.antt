@@ -6,6 +6,8 @@ use Rattle.std.proofs.lemmas.Bool.Decides.{eqb_tells}
 use Rattle.std.proofs.lemmas.List.{append-nil}
 use Rattle.std.proofs.lemmas.List.Folds.{sum_by-zero}
 use Rattle.std.proofs.lemmas.List.Sums.{sum_by-append, list_all-from_AllPass, AllPass-from_list_all}
+use Rattle.std.specs.List.Sorted.{IsPermutation}
+use Rattle.std.proofs.lemmas.List.Sorted.{sum_by-IsPermutation}
 use Rattle.gate_channels.proofs.Tasks.{same_or_not, lt_or_le}
 use Rattle.run_histories.specs.Contents.{by_sender, parts_in}
 use Rattle.task_trees.specs.Operators.{Cells, Item, of_rows, concat}
@@ -13,7 +15,7 @@ use Rattle.task_trees.specs.Tasks.{Parts, Split, all_parts}
 use Rattle.task_trees.specs.Runs.{for_channel}
 use Rattle.task_trees.proofs.Fronts.{of_rows-append, concat-append}
 use Rattle.task_trees.proofs.Desks.{same_functions}
-use Rattle.whole_contents.specs.Bags.{sum_below}
+use Rattle.whole_contents.specs.Bags.{SameBag, sum_below, together}
 use Rattle.whole_contents.specs.Senders.{bodies}
 
 -- ------------------------------------------------------------ sums below a number
@@ -164,3 +166,15 @@ none_fails test xs a = eqb-true (sum_by (fails test) xs) 0 (no_failure test xs �
 
 pub all_pass : {A : Type 0} (test : A → Bool) (xs : List A) → NoneFails test xs → AllPass test xs
 all_pass test xs e = AllPass-from_list_all test xs (sym (no_failure test xs) ∙ eq-eqb (sum_by (fails test) xs) 0 e)
+
+-- ------------------------------------------------------------ bags
+
+pub together_weighs : {A : Type 0} (w : A → ℕ) (n : ℕ) (F : ℕ → List A) → sum_by w (together n F) ≡ sum_below n (λ i. sum_by w (F i))
+together_weighs w zero F = refl
+together_weighs w (suc n) F = sum_by-append w (together n F) (F n) ∙ ap (λ m. m + sum_by w (F n)) (together_weighs w n F)
+
+pub permuted : (xs ys : List Item) → IsPermutation xs ys → SameBag xs ys
+permuted xs ys m = λ w. sym (sum_by-IsPermutation w xs ys m)
+
+pub passes : (test : Item → Bool) (xs ys : List Item) → SameBag xs ys → AllPass test xs → AllPass test ys
+passes test xs ys same a = all_pass test ys (sym (same (fails test)) ∙ none_fails test xs a)

@@ -15,10 +15,10 @@ use Rattle.task_trees.specs.Tasks.{Parts, Split, all_parts, IsCut}
 use Rattle.task_trees.specs.Runs.{State, the_task, for_channel, IsStart, IsReached}
 use Rattle.task_trees.proofs.Fronts.{of_rows-append, concat-append, left_of}
 use Rattle.task_trees.proofs.Deliveries.{for-append}
-use Rattle.whole_contents.specs.Bags.{sum_below}
+use Rattle.whole_contents.specs.Bags.{SameBag, sum_below, together}
 use Rattle.whole_contents.specs.Senders.{bodies, Deal, AreSenders, SendsOnly, IsOnlySender}
-use Rattle.whole_contents.specs.Whole.{past_in, tree_in, parts_of, unsent, still, to_come, IsFull, AreFull, given_weight}
-use Rattle.whole_contents.proofs.Bags.{sums_same, sums_add, sums_zero, sums_swap, sums_none, sums_each, weight, weight-append, spread, by_senders, one_sender, all_weigh, fails, none_fails, all_pass}
+use Rattle.whole_contents.specs.Whole.{past_in, tree_in, parts_of, unsent, still, to_come, IsFull, AreFull, given_weight, given_to}
+use Rattle.whole_contents.proofs.Bags.{together_weighs, sums_same, sums_add, sums_zero, sums_swap, sums_none, sums_each, weight, weight-append, spread, by_senders, one_sender, all_weigh, fails, none_fails, all_pass}
 use Rattle.whole_contents.proofs.Flows
 
 is_false : (b : Bool) → (b ≡ true → ⊥) → b ≡ false
@@ -129,6 +129,14 @@ module _ (p : Shape) (sh : IsShape p) (size limit : ℕ) (start s : State) (entr
     unfolding give_weight
     exchanged g = sums_same (width p g) (λ c. sum_by w (full g c)) (λ c. sum_below (length p.tasks) (own g c)) (λ c h. channel_weight g c h)
         ∙ (sums_swap (width p g) (length p.tasks) (own g) ∙ sums_same (length p.tasks) (λ u. sum_below (width p g) (λ c. own g c u)) (give_weight g) (λ u h. sender_weight g u))
+
+  pub shared : (g : ℕ) → SameBag (together (width p g) (full g)) (together (length p.tasks) (given_to p s full g))
+  shared g = λ w. together_weighs w (width p g) (full g) ∙ (exchanged w g ∙ sym (together_weighs w (length p.tasks) (given_to p s full g)
+      ∙ sums_same (length p.tasks) (λ u. sum_by w (given_to p s full g u)) (λ u. cond (is_group (task_at p u).sends g) (sum_by w (whole full (tree_in s u))) 0) (λ u l. one w u (is_group (task_at p u).sends g))))
+    where
+      one : (w : Item → ℕ) (u : ℕ) (b : Bool) → sum_by w (cond b (whole full (tree_in s u)) []) ≡ cond b (sum_by w (whole full (tree_in s u))) 0
+      one w u true = refl
+      one w u false = refl
 
   -- ---------------------------------------------------------- tests
 

@@ -49,3 +49,7 @@ AreFull p s deal full = (t g c : ℕ) → receives_at p t g c ≡ true → IsFul
 -- what the senders of group g would give together, in this weight
 abbrev pub given_weight : Shape → State → (ℕ → ℕ → List Item) → (Item → ℕ) → ℕ → ℕ
 given_weight p s full w g = sum_below (length p.tasks) (λ u. if is_group (task_at p u).sends g then sum_by w (whole full (tree_in s u)) else 0)
+
+-- what task u would give, where it sends to group g
+abbrev pub given_to : Shape → State → (ℕ → ℕ → List Item) → ℕ → ℕ → List Item
+given_to p s full g u = if is_group (task_at p u).sends g then whole full (tree_in s u) else []

@@ -1,5 +1,6 @@
-ghost use Rattle.std.specs.Prelude.{ℕ, ◌<◌, ◌≤◌, ◌≡◌, Bool, true, false, Some, List};
+ghost use Rattle.std.specs.Prelude.{ℕ, ◌<◌, ◌≤◌, ◌≡◌, Bool, true, false, Some, List, length};
 ghost use Rattle.std.specs.List.{sum_by, AllPass};
+ghost use Rattle.std.specs.List.Sorted.{IsPermutation};
 ghost use Rattle.run_journal.specs.declared.entry.Entry.{Entry};
 ghost use Rattle.core_frame.specs.Shape.{Shape, IsShape, task_at, has, is_group, width};
 ghost use Rattle.task_trees.specs.Operators.{Cells, Item, of_rows};
@@ -7,10 +8,10 @@ ghost use Rattle.task_trees.specs.Trees.{gave_of};
 ghost use Rattle.task_trees.specs.Linked.{whole, IsFlow, IsWhole};
 ghost use Rattle.task_trees.specs.Tasks.{Split};
 ghost use Rattle.task_trees.specs.Runs.{State, the_task, IsStart, IsReached};
-ghost use Rattle.whole_contents.specs.Bags.{sum_below};
+ghost use Rattle.whole_contents.specs.Bags.{SameBag, sum_below, together};
 ghost use Rattle.whole_contents.specs.Senders.{Deal, IsSender, AreSenders, SendsOnly, IsOnlySender};
 ghost use Rattle.whole_contents.specs.SenderKinds.{whole_split, home_deal, hash_split, hash_deal, is_at};
-ghost use Rattle.whole_contents.specs.Whole.{past_in, tree_in, AreFull, given_weight};
+ghost use Rattle.whole_contents.specs.Whole.{past_in, tree_in, AreFull, given_weight, given_to};
 
 /// In each state that entries reach from the start of a run of tasks, its channels have whole contents (`exist`).
 ///
@@ -29,7 +30,7 @@ pub fn full_law()
 {}
 
 /// The channels of a group share what its senders would give: of each weight of items, their whole contents have together what
-/// the senders' trees would give of whole channels (`exchanged`).
+/// the senders' trees would give of whole channels (`exchanged`), so both are the same bag (`shared`).
 ///
 /// A channel with one sender that sends all there has what that task would give, in order (`single`).
 pub fn exchange_law()
@@ -37,6 +38,10 @@ pub fn exchange_law()
         → IsShape p → IsStart p size limit start → IsReached p size limit start entries s → AreSenders p start.tasks deal
         → AreFull p s deal full
         → (w : Item → ℕ) (g : ℕ) → sum_below (width p g) (λ c. sum_by w (full g c)) ≡ given_weight p s full w g }
+    ensures shared { (p : Shape) (size limit : ℕ) (start s : State) (entries : List Entry) (deal : ℕ → Deal) (full : ℕ → ℕ → List Item)
+        → IsShape p → IsStart p size limit start → IsReached p size limit start entries s → AreSenders p start.tasks deal
+        → AreFull p s deal full
+        → (g : ℕ) → SameBag (together (width p g) (full g)) (together (length p.tasks) (given_to p s full g)) }
     ensures single { (p : Shape) (size limit : ℕ) (start s : State) (entries : List Entry) (deal : ℕ → Deal) (full : ℕ → ℕ → List Item)
         → IsShape p → IsStart p size limit start → IsReached p size limit start entries s → AreSenders p start.tasks deal
         → AreFull p s deal full
@@ -75,4 +80,11 @@ pub fn senders_law()
         → ((c : ℕ) → has (task_at p u).targets c ≡ false → n ≤ c)
         → IsSender p u g (hash_split number n) (hash_deal number) }
     ensures numbered { (number : Cells → ℕ) (n c : ℕ) → SendsOnly (is_at number c) c (hash_split number n) (hash_deal number) }
+{}
+
+/// Lists that are permutations of one another are the same bag (`permuted`), and a test passes all of a bag, whatever the order
+/// (`passes`).
+pub fn bag_law()
+    ensures permuted { (xs ys : List Item) → IsPermutation xs ys → SameBag xs ys }
+    ensures passes { (test : Item → Bool) (xs ys : List Item) → SameBag xs ys → AllPass test xs → AllPass test ys }
 {}

@@ -6,3 +6,6 @@ returns-clause-exchanged c = λ p size limit start s entries deal full shape sta
 
 pub returns-clause-single : goal.returns-clause-single
 returns-clause-single c = λ p size limit start s entries deal full shape starts reached senders all u g c one. Exchanges.only_sender p shape size limit start s entries starts reached deal senders full all u g c one
+
+pub returns-clause-shared : goal.returns-clause-shared
+returns-clause-shared c = λ p size limit start s entries deal full shape starts reached senders all g. Exchanges.shared p shape size limit start s entries starts reached deal senders full all g

@@ -1,0 +1,73 @@
+-- The worked rows of the README, computed from the definitions.
+use Rattle.std.proofs.Common.{ℕ, ◌≡◌, refl, List, [], ◌∷◌, length, Some, None, true, false, Ok, Err}
+use Rattle.dfx_value.specs.declared.fault.ItemFault.{ItemFault}
+use Rattle.dfx_value.specs.declared.value.Value.TheVariants as value
+use Rattle.core_frame.specs.Shape.{Shape}
+use Rattle.core_frame.specs.Frame.{opening}
+use Rattle.core_frame.specs.Step.{Send, Recv}
+use Rattle.run_histories.specs.Histories.{Past, Go, Batch, Gone}
+use Rattle.task_trees.specs.Operators.{Cells, Item}
+use Rattle.task_trees.specs.Trees.{Files, Inlet}
+use Rattle.task_trees.specs.Tasks.{Parts, Task}
+use Rattle.task_trees.specs.Runs.{State}
+use Rattle.whole_contents.specs.Senders.{Deal}
+use Rattle.whole_contents.specs.SenderKinds.{whole_split, home_deal, hash_split, hash_deal}
+use Rattle.whole_contents.specs.Whole.{unsent, to_come}
+
+-- rows of one cell
+yes : Cells
+yes = value.Bool true ∷ []
+
+no : Cells
+no = value.Bool false ∷ []
+
+shape : Shape
+shape = record {
+  tasks = record { stage = 0; sends = None; targets = []; receives = (1, 0) ∷ []; consumers = [] }
+      ∷ record { stage = 1; sends = Some 1; targets = 0 ∷ []; receives = []; consumers = [] }
+      ∷ record { stage = 1; sends = Some 1; targets = 0 ∷ []; receives = []; consumers = [] } ∷ [];
+  widths = 0 ∷ 1 ∷ [];
+  spillable = [];
+}
+
+sender : List Item → List Cells → Parts → Task
+sender all gave parts = record { tree = Files all 0 [] gave []; header = false; split = Some (whole_split (λ j. 0)); batches = 0; parts = parts; leaving = false; output = [] }
+
+root : Task
+root = record { tree = Inlet 1 0 [] [] false; header = false; split = None; batches = 0; parts = []; leaving = false; output = [] }
+
+-- task 0 took what task 1 sent
+state : Past (List Cells) → Task → Task → State
+state past first second = record {
+  run = record { frame = opening shape 100; pasts = ((Recv 1 0, Batch (yes ∷ [])) ∷ []) ∷ past ∷ [] ∷ [] };
+  tasks = root ∷ first ∷ second ∷ [];
+}
+
+deal : ℕ → Deal
+deal u = home_deal 0
+
+some_to_come : (f : ItemFault) → to_come shape
+    (state ((Send 0 (yes ∷ []), Go) ∷ []) (sender (Ok yes ∷ Ok no ∷ Ok yes ∷ []) (yes ∷ no ∷ []) ((0, no ∷ []) ∷ [])) (sender (Ok no ∷ Err f ∷ []) [] []))
+    deal (λ g c. []) 1 0 3 ≡ Ok no ∷ Ok yes ∷ Ok no ∷ Err f ∷ []
+unfolding shape state sender root deal yes no
+some_to_come f = refl
+
+one_refused : unsent (state ((Send 0 (yes ∷ []), Go) ∷ (Send 0 (no ∷ []), Gone false) ∷ []) (sender (Ok yes ∷ Ok no ∷ []) (yes ∷ no ∷ []) []) root) 1 0 ≡ (no ∷ []) ∷ []
+unfolding state sender root yes no
+one_refused = refl
+
+by_length : hash_split length 2 0 (yes ∷ [] ∷ no ∷ []) ≡ (0, [] ∷ []) ∷ (1, yes ∷ no ∷ []) ∷ []
+unfolding yes no
+by_length = refl
+
+no_empty_part : hash_split length 2 0 (yes ∷ []) ≡ (1, yes ∷ []) ∷ []
+unfolding yes
+no_empty_part = refl
+
+faults_first : (f : ItemFault) → hash_deal length 0 (Err f ∷ Ok yes ∷ []) ≡ Err f ∷ []
+unfolding yes
+faults_first f = refl
+
+rows_at_their_own : (f : ItemFault) → hash_deal length 1 (Err f ∷ Ok yes ∷ []) ≡ Ok yes ∷ []
+unfolding yes
+rows_at_their_own f = refl
