@@ -9,7 +9,8 @@ use Rattle.fair_pool.specs.Share.{share_of, grants}
 use Rattle.core_frame.specs.Shape.{Shape}
 use Rattle.core_frame.specs.Step.{Need, Scan, Grow, Free, Writes, wake, put_gate, with_pool, move_to, progress_is, failed}
 use Rattle.run_histories.specs.Histories.{past_of, begun}
-use Rattle.task_trees.specs.Operators.{Cells, Item, Op}
+use Rattle.logical_plan.specs.Items.{Cells, Item}
+use Rattle.task_trees.specs.Operators.{Op}
 use Rattle.task_trees.specs.OperatorKinds.{end_op, merge}
 use Rattle.task_trees.specs.Trees.{Tree, Nothing, Files, Inlet, Node}
 use Rattle.task_trees.specs.Tasks.{Split, Task}

@@ -10,7 +10,7 @@ use Rattle.std.specs.List.Sorted.{IsPermutation}
 use Rattle.std.proofs.lemmas.List.Sorted.{sum_by-IsPermutation}
 use Rattle.gate_channels.proofs.Tasks.{same_or_not, lt_or_le}
 use Rattle.run_histories.specs.Contents.{by_sender, parts_in}
-use Rattle.task_trees.specs.Operators.{Cells, Item, of_rows, concat}
+use Rattle.logical_plan.specs.Items.{Cells, Item, of_rows, concat}
 use Rattle.task_trees.specs.Tasks.{Parts, Split, all_parts}
 use Rattle.task_trees.specs.Runs.{for_channel}
 use Rattle.task_trees.proofs.Fronts.{of_rows-append, concat-append}

@@ -8,7 +8,7 @@ use Rattle.run_journal.specs.declared.entry.Entry.{Entry}
 use Rattle.gate_channels.proofs.Tasks.{same_or_not, lt_or_le}
 use Rattle.core_frame.specs.Shape.{Shape, IsShape, no_task, task_at, is_group, has, width}
 use Rattle.run_histories.specs.Contents.{took, parts_sent, sent_to, by_sender, parts_in, IsContents}
-use Rattle.task_trees.specs.Operators.{Cells, Item, of_rows, concat}
+use Rattle.logical_plan.specs.Items.{Cells, Item, of_rows, concat}
 use Rattle.task_trees.specs.Trees.{gave_of}
 use Rattle.task_trees.specs.Linked.{whole, IsWhole}
 use Rattle.task_trees.specs.Tasks.{Parts, Split, all_parts, IsCut}

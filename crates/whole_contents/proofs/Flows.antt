@@ -7,7 +7,8 @@ use Rattle.gate_channels.proofs.Tasks.{lt_or_le}
 use Rattle.core_frame.specs.Shape.{TaskShape, Shape, IsShape, no_task, task_at, is_group, has, width, receives_at}
 use Rattle.run_histories.specs.Contents.{took, has_end, parts_sent, IsContents, IsTold}
 use Rattle.run_histories.proofs.Laws.{recorded}
-use Rattle.task_trees.specs.Operators.{Cells, Item, of_rows, concat, IsFront, Reads}
+use Rattle.logical_plan.specs.Items.{Cells, Item, of_rows, concat}
+use Rattle.task_trees.specs.Operators.{IsFront, Reads}
 use Rattle.task_trees.specs.Trees.{Tree, Nothing, Files, Inlet, Node, gave_of, HasInlet, FormReads}
 use Rattle.task_trees.specs.Linked.{whole, IsFlow, IsWhole}
 use Rattle.task_trees.specs.Tasks.{Parts, Split, handled, all_parts, IsCut, IsOut}

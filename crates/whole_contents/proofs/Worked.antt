@@ -6,7 +6,7 @@ use Rattle.core_frame.specs.Shape.{Shape}
 use Rattle.core_frame.specs.Frame.{opening}
 use Rattle.core_frame.specs.Step.{Send, Recv}
 use Rattle.run_histories.specs.Histories.{Past, Go, Batch, Gone}
-use Rattle.task_trees.specs.Operators.{Cells, Item}
+use Rattle.logical_plan.specs.Items.{Cells, Item}
 use Rattle.task_trees.specs.Trees.{Files, Inlet}
 use Rattle.task_trees.specs.Tasks.{Parts, Task}
 use Rattle.task_trees.specs.Runs.{State}

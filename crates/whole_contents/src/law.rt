@@ -3,7 +3,7 @@ ghost use Rattle.std.specs.List.{sum_by, AllPass};
 ghost use Rattle.std.specs.List.Sorted.{IsPermutation};
 ghost use Rattle.run_journal.specs.declared.entry.Entry.{Entry};
 ghost use Rattle.core_frame.specs.Shape.{Shape, IsShape, task_at, has, is_group, width};
-ghost use Rattle.task_trees.specs.Operators.{Cells, Item, of_rows};
+ghost use Rattle.logical_plan.specs.Items.{Cells, Item, of_rows};
 ghost use Rattle.task_trees.specs.Trees.{gave_of};
 ghost use Rattle.task_trees.specs.Linked.{whole, IsFlow, IsWhole};
 ghost use Rattle.task_trees.specs.Tasks.{Split};
