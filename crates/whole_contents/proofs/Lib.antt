@@ -1,4 +1,5 @@
 pub mod Bags
+pub mod Orders
 pub mod Flows
 pub mod Exchanges
 pub mod SenderKinds

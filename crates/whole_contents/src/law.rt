@@ -9,7 +9,8 @@ ghost use Rattle.task_trees.specs.Linked.{whole, IsFlow, IsWhole};
 ghost use Rattle.task_trees.specs.Tasks.{Split};
 ghost use Rattle.task_trees.specs.Runs.{State, the_task, IsStart, IsReached};
 ghost use Rattle.whole_contents.specs.Bags.{SameBag, sum_below, together};
-ghost use Rattle.whole_contents.specs.Senders.{Deal, IsSender, AreSenders, SendsOnly, IsOnlySender};
+ghost use Rattle.whole_contents.specs.Subsequences.{IsSubsequence};
+ghost use Rattle.whole_contents.specs.Senders.{Deal, IsSender, AreSenders, SendsOnly, IsOnlySender, SendsInOrder, IsLoneSender};
 ghost use Rattle.whole_contents.specs.SenderKinds.{whole_split, home_deal, hash_split, hash_deal, is_at};
 ghost use Rattle.whole_contents.specs.Whole.{past_in, tree_in, AreFull, given_weight, given_to};
 
@@ -32,7 +33,8 @@ pub fn full_law()
 /// The channels of a group share what its senders would give: of each weight of items, their whole contents have together what
 /// the senders' trees would give of whole channels (`exchanged`), so both are the same bag (`shared`).
 ///
-/// A channel with one sender that sends all there has what that task would give, in order (`single`).
+/// A channel with one sender that sends all there has what that task would give, in order (`single`). Where one task alone sends to a
+/// group, in order, each of its channels has some of what that task would give, in its order (`ordered`).
 pub fn exchange_law()
     ensures exchanged { (p : Shape) (size limit : ℕ) (start s : State) (entries : List Entry) (deal : ℕ → Deal) (full : ℕ → ℕ → List Item)
         → IsShape p → IsStart p size limit start → IsReached p size limit start entries s → AreSenders p start.tasks deal
@@ -46,6 +48,11 @@ pub fn exchange_law()
         → IsShape p → IsStart p size limit start → IsReached p size limit start entries s → AreSenders p start.tasks deal
         → AreFull p s deal full
         → (u g c : ℕ) → IsOnlySender p start.tasks deal u g c → full g c ≡ whole full (tree_in s u) }
+    ensures ordered { (p : Shape) (size limit : ℕ) (start s : State) (entries : List Entry) (deal : ℕ → Deal) (full : ℕ → ℕ → List Item)
+        → IsShape p → IsStart p size limit start → IsReached p size limit start entries s → AreSenders p start.tasks deal
+        → AreFull p s deal full
+        → (u g : ℕ) → IsLoneSender p start.tasks deal u g → (c : ℕ) → c < width p g
+        → IsSubsequence (full g c) (whole full (tree_in s u)) }
 {}
 
 /// What a test of items passes at channels: what passes it at all senders of the group (`all`), and what passes it at the parts
@@ -72,7 +79,8 @@ pub fn test_law()
 
 /// Two kinds of senders owe what a sender has to: those whose batches go whole to one channel each, by their number (`batches`),
 /// where what they would still give goes to any one of their targets; and those that send each row to the channel of its number
-/// (`rows`), so that a channel gets only rows of its own number (`numbered`).
+/// (`rows`), so that a channel gets only rows of its own number (`numbered`). What they send to a channel stands in the order in which
+/// it is given (`batches_in_order`, `rows_in_order`).
 pub fn senders_law()
     ensures batches { (p : Shape) (u g : ℕ) (to : ℕ → ℕ) (home : ℕ) → has (task_at p u).targets home ≡ true → home < width p g
         → IsSender p u g (whole_split to) (home_deal home) }
@@ -80,6 +88,8 @@ pub fn senders_law()
         → ((c : ℕ) → has (task_at p u).targets c ≡ false → n ≤ c)
         → IsSender p u g (hash_split number n) (hash_deal number) }
     ensures numbered { (number : Cells → ℕ) (n c : ℕ) → SendsOnly (is_at number c) c (hash_split number n) (hash_deal number) }
+    ensures batches_in_order { (to : ℕ → ℕ) (home : ℕ) → SendsInOrder (whole_split to) (home_deal home) }
+    ensures rows_in_order { (number : Cells → ℕ) (n : ℕ) → SendsInOrder (hash_split number n) (hash_deal number) }
 {}
 
 /// Lists that are permutations of one another are the same bag (`permuted`), and a test passes all of a bag, whatever the order
