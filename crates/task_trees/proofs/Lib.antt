@@ -9,3 +9,5 @@ pub mod Runs
 pub mod OperatorKinds
 pub mod Merges
 pub mod Worked
+pub mod Kept
+pub mod Batches

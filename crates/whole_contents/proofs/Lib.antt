@@ -4,3 +4,4 @@ pub mod Flows
 pub mod Exchanges
 pub mod SenderKinds
 pub mod Worked
+pub mod Received

@@ -2,12 +2,15 @@ ghost use Rattle.std.specs.Prelude.{ℕ, ◌<◌, ◌≤◌, ◌≡◌, Bool, tr
 ghost use Rattle.std.specs.List.{sum_by, AllPass};
 ghost use Rattle.std.specs.List.Sorted.{IsPermutation};
 ghost use Rattle.run_journal.specs.declared.entry.Entry.{Entry};
-ghost use Rattle.core_frame.specs.Shape.{Shape, IsShape, task_at, has, is_group, width};
+ghost use Rattle.core_frame.specs.Shape.{Shape, IsShape, task_at, has, is_group, receives_at, width};
+ghost use Rattle.core_frame.specs.Frame.{channel_of};
+ghost use Rattle.run_histories.specs.Contents.{took};
 ghost use Rattle.logical_plan.specs.Items.{Cells, Item, of_rows};
 ghost use Rattle.task_trees.specs.Trees.{gave_of};
 ghost use Rattle.task_trees.specs.Linked.{whole, IsFlow, IsWhole};
-ghost use Rattle.task_trees.specs.Tasks.{Split};
+ghost use Rattle.task_trees.specs.Tasks.{Split, handled};
 ghost use Rattle.task_trees.specs.Runs.{State, the_task, IsStart, IsReached};
+ghost use Rattle.task_trees.specs.Batches.{EachHasRows, AllHaveRows, SendsRows};
 ghost use Rattle.whole_contents.specs.Bags.{SameBag, sum_below, together};
 ghost use Rattle.whole_contents.specs.Subsequences.{IsSubsequence};
 ghost use Rattle.whole_contents.specs.Senders.{Deal, IsSender, AreSenders, SendsOnly, IsOnlySender, SendsInOrder, IsLoneSender};
@@ -80,7 +83,8 @@ pub fn test_law()
 /// Two kinds of senders owe what a sender has to: those whose batches go whole to one channel each, by their number (`batches`),
 /// where what they would still give goes to any one of their targets; and those that send each row to the channel of its number
 /// (`rows`), so that a channel gets only rows of its own number (`numbered`). What they send to a channel stands in the order in which
-/// it is given (`batches_in_order`, `rows_in_order`).
+/// it is given (`batches_in_order`, `rows_in_order`). Neither sends an empty part of a batch that has rows (`batches_have_rows`,
+/// `rows_have_rows`).
 pub fn senders_law()
     ensures batches { (p : Shape) (u g : ℕ) (to : ℕ → ℕ) (home : ℕ) → has (task_at p u).targets home ≡ true → home < width p g
         → IsSender p u g (whole_split to) (home_deal home) }
@@ -90,6 +94,8 @@ pub fn senders_law()
     ensures numbered { (number : Cells → ℕ) (n c : ℕ) → SendsOnly (is_at number c) c (hash_split number n) (hash_deal number) }
     ensures batches_in_order { (to : ℕ → ℕ) (home : ℕ) → SendsInOrder (whole_split to) (home_deal home) }
     ensures rows_in_order { (number : Cells → ℕ) (n : ℕ) → SendsInOrder (hash_split number n) (hash_deal number) }
+    ensures batches_have_rows { (to : ℕ → ℕ) → SendsRows (whole_split to) }
+    ensures rows_have_rows { (number : Cells → ℕ) (n : ℕ) → SendsRows (hash_split number n) }
 {}
 
 /// Lists that are permutations of one another are the same bag (`permuted`), and a test passes all of a bag, whatever the order
@@ -97,4 +103,16 @@ pub fn senders_law()
 pub fn bag_law()
     ensures permuted { (xs ys : List Item) → IsPermutation xs ys → SameBag xs ys }
     ensures passes { (test : Item → Bool) (xs ys : List Item) → SameBag xs ys → AllPass test xs → AllPass test ys }
+{}
+
+/// Where no part that tasks sent, or were refused, is empty, no batch is that was taken from a channel (`took`), or that is left in a
+/// live one (`left`).
+pub fn received_law()
+    ensures took { (p : Shape) (size limit : ℕ) (start s : State) (entries : List Entry)
+        → IsShape p → IsReached p size limit start entries s → ((u : ℕ) → AllHaveRows (handled (past_in s u)))
+        → (t g c : ℕ) → receives_at p t g c ≡ true → EachHasRows (took g c (past_in s t)) }
+    ensures left { (p : Shape) (size limit : ℕ) (start s : State) (entries : List Entry)
+        → IsShape p → IsReached p size limit start entries s → ((u : ℕ) → AllHaveRows (handled (past_in s u)))
+        → (t g c : ℕ) → receives_at p t g c ≡ true → (channel_of s.run.frame g c).live ≡ true
+        → EachHasRows (channel_of s.run.frame g c).batches }
 {}

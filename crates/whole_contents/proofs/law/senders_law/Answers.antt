@@ -1,5 +1,6 @@
 use Rattle.whole_contents.proofs.SenderKinds
 use Rattle.whole_contents.proofs.Orders
+use Rattle.whole_contents.proofs.Received
 use Rattle.whole_contents.proofs.law.senders_law.Goals as goal
 
 pub returns-clause-batches : goal.returns-clause-batches
@@ -16,3 +17,9 @@ returns-clause-batches_in_order c = λ to home. Orders.whole_in_order to home
 
 pub returns-clause-rows_in_order : goal.returns-clause-rows_in_order
 returns-clause-rows_in_order c = λ number n. Orders.hash_in_order number n
+
+pub returns-clause-batches_have_rows : goal.returns-clause-batches_have_rows
+returns-clause-batches_have_rows c = λ to. Received.whole_rows to
+
+pub returns-clause-rows_have_rows : goal.returns-clause-rows_have_rows
+returns-clause-rows_have_rows c = λ number n. Received.hash_rows number n
