@@ -11,3 +11,4 @@ pub mod Merges
 pub mod Worked
 pub mod Kept
 pub mod Batches
+pub mod Subtrees

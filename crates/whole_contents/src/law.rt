@@ -6,7 +6,7 @@ ghost use Rattle.core_frame.specs.Shape.{Shape, IsShape, task_at, has, is_group,
 ghost use Rattle.core_frame.specs.Frame.{channel_of};
 ghost use Rattle.run_histories.specs.Contents.{took};
 ghost use Rattle.logical_plan.specs.Items.{Cells, Item, of_rows};
-ghost use Rattle.task_trees.specs.Trees.{gave_of};
+ghost use Rattle.task_trees.specs.Trees.{Tree, gave_of, IsSubtree};
 ghost use Rattle.task_trees.specs.Linked.{whole, IsFlow, IsWhole};
 ghost use Rattle.task_trees.specs.Tasks.{Split, handled};
 ghost use Rattle.task_trees.specs.Runs.{State, the_task, IsStart, IsReached};
@@ -20,7 +20,7 @@ ghost use Rattle.whole_contents.specs.Whole.{past_in, tree_in, AreFull, given_we
 /// In each state that entries reach from the start of a run of tasks, its channels have whole contents (`exist`).
 ///
 /// Of these is read what each task took (`flow`); so what its tree gave is a front of what it would give of whole channels, and all
-/// of it where it ends (`whole`).
+/// of it where it ends (`whole`), and so it is of each tree in it, that is, of what each operator gave (`fronts`).
 pub fn full_law()
     ensures exist { (p : Shape) (size limit : ℕ) (start s : State) (entries : List Entry) (deal : ℕ → Deal)
         → IsShape p → IsStart p size limit start → IsReached p size limit start entries s
@@ -31,6 +31,9 @@ pub fn full_law()
     ensures whole { (p : Shape) (size limit : ℕ) (start s : State) (entries : List Entry) (deal : ℕ → Deal) (full : ℕ → ℕ → List Item)
         → IsShape p → IsStart p size limit start → IsReached p size limit start entries s → AreSenders p start.tasks deal
         → AreFull p s deal full → (t : ℕ) → IsWhole size full (tree_in s t) }
+    ensures fronts { (p : Shape) (size limit : ℕ) (start s : State) (entries : List Entry) (deal : ℕ → Deal) (full : ℕ → ℕ → List Item)
+        → IsShape p → IsStart p size limit start → IsReached p size limit start entries s → AreSenders p start.tasks deal
+        → AreFull p s deal full → (t : ℕ) (x : Tree) → IsSubtree x (tree_in s t) → IsWhole size full x }
 {}
 
 /// The channels of a group share what its senders would give: of each weight of items, their whole contents have together what
