@@ -3,7 +3,7 @@ use Rattle.std.proofs.Common.{ℕ, zero, suc, ◌+◌, ◌<◌, ◌≡◌, refl,
 use Rattle.std.proofs.lemmas.Bool.{false≢true}
 use Rattle.physical_plan.specs.declared.plan.Plan.{Plan}
 use Rattle.physical_plan.specs.Layout.{Part, Stage, layout, numbers_from, tasks_of, tasks_from, spills_of, shape, group_of, head_or, tail_of}
-use Rattle.core_frame.specs.Shape.{Ascends, TaskShape, names, has, no_task}
+use Rattle.core_frame.specs.Shape.{TaskShape, names, has, no_task}
 use Rattle.logical_plan.specs.Items.{Cells}
 use Rattle.task_trees.specs.Trees.{Tree, HasInlet, HasConsumer, gave_of}
 use Rattle.task_trees.specs.Tasks.{Split, Task, IsTask, IsOut}
@@ -25,7 +25,6 @@ pub record TaskFits (size : ℕ) (t : TaskShape) (k : Task) : Type 0 where
   pub consumers : (c : ℕ) → HasConsumer c k.tree → has t.consumers c ≡ true
   pub sends : (split : Split) → k.split ≡ Some split → (g : ℕ) × (t.sends ≡ Some g) × ((j : ℕ) (b : List Cells) → AllTo (has t.targets) (split j b))
   pub splits : is_some k.split ≡ is_some t.sends
-  pub ascends : Ascends t.receives
   pub task : IsTask size [] k
 
 abbrev pub AllFit : ℕ → List TaskShape → List Task → Type 0
@@ -55,7 +54,6 @@ task_fits size k m s c p seed split ts h a e = record {
   consumers = λ d i. count_has (numbers_from c (length p.consumers)) d (reserves_has (seed.tree c) (numbers_from c (length p.consumers)) d (h.reserves c) i);
   sends = λ x q. (let g = some_group (group_of s) (sym (ap is_some q) ∙ e) in (g.0, g.1, a x q));
   splits = e;
-  ascends = h.ascends;
   task = record {
     linked = fresh_linked size (seed.tree c) (h.fresh c) (is_apart (seed.tree c) p.receives (numbers_from c (length p.consumers)) (h.reads c) (h.reserves c) h.once (numbers_once c (length p.consumers)));
     out = starts_out split (seed.tree c) (gave_nothing (seed.tree c) (h.fresh c));
@@ -115,7 +113,6 @@ nobody_fits size = record {
   consumers = λ c h. absurd h;
   sends = λ split e. absurd (false≢true (ap is_some e));
   splits = refl;
-  ascends = tt;
   task = record { linked = tt; out = (refl, refl, refl); left = λ e c. absurd (false≢true e) };
 }
 

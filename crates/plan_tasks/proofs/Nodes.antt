@@ -4,7 +4,6 @@ use Rattle.std.proofs.lemmas.List.{append-nil, length-append}
 use Rattle.std.proofs.lemmas.Bool.Decides.{nat_tests, eqb_tells}
 use Rattle.physical_plan.specs.Layout.{Part, bare, numbers, numbers_from, consuming, side_by_side, reader, merger}
 use Rattle.logical_plan.specs.Items.{concat}
-use Rattle.core_frame.specs.Shape.{Ascends}
 use Rattle.task_trees.specs.Operators.{Op, IsOp}
 use Rattle.task_trees.specs.Trees.{File, Tree, Nothing}
 use Rattle.plan_tasks.specs.Trees.{Seed, inlet, scanning, leaf, passing, holding, pairing, merged}
@@ -19,7 +18,6 @@ pub record IsPart (k m : ℕ) (p : Part) (s : Seed) : Type 0 where
   pub reads : (c : ℕ) → Reads (s.tree c) p.receives
   pub reserves : (c : ℕ) → Reserves (s.tree c) (numbers_from c (length p.consumers))
   pub fresh : (c : ℕ) → IsFresh (s.tree c)
-  pub ascends : Ascends p.receives
   pub once : (g d : ℕ) → pair_count p.receives g d ≤ 1
   pub within : (g d : ℕ) → 0 < pair_count p.receives g d → (k ≤ g) × (g < m)
 
@@ -30,7 +28,6 @@ wider k m k2 m2 p s a b h = record {
   reads = h.reads;
   reserves = h.reserves;
   fresh = h.fresh;
-  ascends = h.ascends;
   once = h.once;
   within = λ g d e. (let w = h.within g d e in (let l : k ≤ g = w.0 in omega arith, let l : g < m = w.1 in omega arith));
 }
@@ -70,7 +67,6 @@ passing_part op k m p s o e h = record {
   reads = λ c. (p.receives ∷ [], one_reads (s.tree c) p.receives (h.reads c), sym (append-nil p.receives));
   reserves = λ c. (numbers_from c (length p.consumers) ∷ [], one_reserves (s.tree c) (numbers_from c (length p.consumers)) (h.reserves c), passing_reserves (op c).consumer (numbers_from c (length p.consumers)) (e c));
   fresh = λ c. (o c, refl, refl, one_fresh (s.tree c) (h.fresh c));
-  ascends = h.ascends;
   once = h.once;
   within = h.within;
 }
@@ -82,25 +78,11 @@ holding_part b op k m p s o e h = record {
   reads = λ c. (p.receives ∷ [], one_reads (s.tree (c + 1)) p.receives (h.reads (c + 1)), sym (append-nil p.receives));
   reserves = λ c. (numbers_from (c + 1) (length p.consumers) ∷ [], one_reserves (s.tree (c + 1)) (numbers_from (c + 1) (length p.consumers)) (h.reserves (c + 1)), holding_reserves (op c).consumer c (length p.consumers) (e c));
   fresh = λ c. (o c, refl, refl, one_fresh (s.tree (c + 1)) (h.fresh (c + 1)));
-  ascends = h.ascends;
   once = h.once;
   within = h.within;
 }
 
 -- ------------------------------------------------------------ two inputs
-
-pair_here : (x : ℕ × ℕ) (xs : List (ℕ × ℕ)) → 0 < pair_count (x ∷ xs) x.0 x.1
-pair_here x xs = let e : pair_one x x.0 x.1 ≡ 1 = grind (arith, nat_tests) in omega arith
-
--- those of the one list are of groups below j, those of the other of groups from j on
-ascends_both : (xs ys : List (ℕ × ℕ)) (j : ℕ) → Ascends xs → Ascends ys → ((g d : ℕ) → 0 < pair_count xs g d → g < j) → ((g d : ℕ) → 0 < pair_count ys g d → j ≤ g) → Ascends (xs ++ ys)
-ascends_both [] ys j a b u v = b
-ascends_both (x ∷ []) [] j a b u v = tt
-ascends_both (x ∷ []) (y ∷ ys) j a b u v = (
-  inl (let l : x.0 < j = u x.0 x.1 (pair_here x []) in let r : j ≤ y.0 = v y.0 y.1 (pair_here y ys) in omega arith),
-  b,
-)
-ascends_both (x ∷ z ∷ xs) ys j a b u v = (a.0, ascends_both (z ∷ xs) ys j a.1 b (λ g d w. u g d (omega arith)) v)
 
 two_reads : (t u : Tree) (xs ys : List (ℕ × ℕ)) → Reads t xs → Reads u ys → (i : ℕ) → Reads (get_or (t ∷ u ∷ []) i Nothing) (get_or (xs ∷ ys ∷ []) i [])
 two_reads t u xs ys h k zero = h
@@ -154,7 +136,6 @@ pairing_part op k j m p q l r o e a b h i = record {
         pairing_reserves (op c).consumer c p.consumers q.consumers (e c),
       ));
   fresh = λ c. (o c, refl, refl, two_fresh (l.tree (c + 1)) (r.tree (c + 1 + length l.consumers)) (h.fresh (c + 1)) (i.fresh (c + 1 + length l.consumers)));
-  ascends = ascends_both p.receives q.receives j h.ascends i.ascends (λ g d w. (h.within g d w).1) (λ g d w. (i.within g d w).0);
   once = λ g d. (let s = pair_count-append p.receives q.receives g d in rw s (at_most g d (pair_count p.receives g d) (pair_count q.receives g d) (h.once g d) (i.once g d) (h.within g d) (i.within g d)));
   within = λ g d w. (let s = pair_count-append p.receives q.receives g d in either g d (pair_count p.receives g d) (pair_count q.receives g d) (subst (λ (n : ℕ). 0 < n) s w) (h.within g d) (i.within g d));
 }
@@ -188,7 +169,6 @@ nothing_part k m = record {
   reads = λ c. refl;
   reserves = λ c. refl;
   fresh = λ c. tt;
-  ascends = tt;
   once = λ g d. omega arith;
   within = λ g d h. absurd (omega arith);
 }
@@ -200,7 +180,6 @@ scan_part files k m = record {
   reads = λ c. refl;
   reserves = λ c. refl;
   fresh = λ c. (refl, refl, refl);
-  ascends = tt;
   once = λ g d. omega arith;
   within = λ g d h. absurd (omega arith);
 }
@@ -221,7 +200,6 @@ reader_part k m c l = record {
   reads = λ n. refl;
   reserves = λ n. refl;
   fresh = λ n. (refl, refl, refl);
-  ascends = tt;
   once = λ g d. grind (arith, nat_tests);
   within = λ g d h. (let e : (k ≡ g) × (c ≡ d) = one_pair (k, c) g d (omega arith) in let q : k ≡ g = e.0 in (omega arith, omega arith));
 }
@@ -275,11 +253,6 @@ merge_once g at (suc n) h d = elim (eqb_tells at d) [
       omega arith)
 ]
 
-merge_ascends : (g at n : ℕ) → Ascends (map (λ (c : ℕ). (g, c)) (numbers_from at n))
-merge_ascends g at zero = tt
-merge_ascends g at (suc zero) = tt
-merge_ascends g at (suc (suc n)) = (inr (refl, omega arith), merge_ascends g (at + 1) (suc n))
-
 merge_within : (g at n h d : ℕ) → 0 < pair_count (map (λ (c : ℕ). (g, c)) (numbers_from at n)) h d → g ≡ h
 merge_within g at zero h d l = absurd (omega arith)
 merge_within g at (suc n) h d l = elim (eqb_tells g h) [
@@ -294,7 +267,6 @@ merged_part op k m n o e l = record {
   reads = λ c. (map (λ (d : ℕ). (k, d) ∷ []) (numbers n), merge_reads k 0 n, merge_pairs k (numbers n));
   reserves = λ c. ([], merge_reserves k 0 n, none (op n c).consumer (e c));
   fresh = λ c. (o c, refl, refl, merge_fresh k 0 n);
-  ascends = merge_ascends k 0 n;
   once = merge_once k 0 n;
   within = λ g d h. (let q : k ≡ g = merge_within k 0 n g d h in (omega arith, omega arith));
 }

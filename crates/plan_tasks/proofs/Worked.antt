@@ -1,5 +1,5 @@
 -- Two starts, computed from the definitions, and operators that meet what is asked of them.
-use Rattle.std.proofs.Common.{ℕ, ◌≡◌, refl, sym, ◌∙◌, [], ◌∷◌, length, Option, Some, None}
+use Rattle.std.proofs.Common.{ℕ, ◌≡◌, refl, [], ◌∷◌, length, Option, Some, None}
 use Rattle.dfx_value.specs.declared.op.JoinKind.TheVariants.{Inner}
 use Rattle.plan_props.specs.declared.properties.Partitioning.TheVariants as parting
 use Rattle.physical_plan.specs.declared.plan.Plan.{Plan}
@@ -8,17 +8,13 @@ use Rattle.physical_plan.specs.declared.plan.Plan.TheViews.{roll-Plan}
 use Rattle.task_trees.specs.Operators.{Op, IsOp}
 use Rattle.task_trees.specs.Trees.{File}
 use Rattle.whole_contents.specs.SenderKinds.{whole_split, hash_split}
-use Rattle.physical_plan.specs.Layout.{layout, shape}
-use Rattle.core_frame.specs.Shape.{Ascends, task_at}
+use Rattle.physical_plan.specs.Layout.{layout}
 use Rattle.plan_tasks.specs.Trees.{Doing, reserving, node, inlet, scan, stages_in}
 use Rattle.plan_tasks.specs.Tops.{tops}
 use Rattle.plan_tasks.specs.Starts.{starting, tasks_of}
 use Rattle.plan_tasks.specs.Reading.{AreOperators, consumer_by}
 use Rattle.plan_tasks.specs.Placed.{IsHashing}
-use Rattle.plan_tasks.proofs.Begun.{all_fit, fit_at}
-use Rattle.physical_plan.specs.Counts.{counts_of}
-use Rattle.plan_tasks.proofs.Widths.{width_counts}
-use Rattle.plan_tasks.proofs.Laws.{counted, grown, topped, stages_rolled, sources_rolled, staged_by}
+use Rattle.plan_tasks.proofs.Laws.{grown, topped, stages_rolled, sources_rolled, staged_by}
 
 -- ------------------------------------------------------------ operators that give nothing
 
@@ -50,12 +46,6 @@ quiet_hashing = λ columns n row h. h
 
 pub staged : (p : Plan) (k s : ℕ) → (length (layout p k).stages ≡ stages_in p) × (length (tops p k s) ≡ stages_in p)
 staged p k s = staged_by quiet quiet_operators p k s
-
-pub laid : (p : Plan) (k : ℕ) → length (layout p k).parts ≡ (counts_of p).parts
-laid p k = sym (counted quiet quiet_operators p k 0) ∙ width_counts quiet p k 0
-
-pub ascending : (p : Plan) (t : ℕ) → Ascends (task_at (shape p) t).receives
-ascending p t = (fit_at 0 (shape p).tasks (tasks_of quiet p) t (all_fit quiet quiet_operators 0 p)).ascends
 
 -- ------------------------------------------------------------ five files in four partitions, in one
 

@@ -5,7 +5,7 @@ ghost use Rattle.physical_plan.specs.declared.plan.Plan.TheViews.{roll-Plan};
 ghost use Rattle.physical_plan.specs.declared.plan.Plan.TheFolds.{map-Plan};
 ghost use Rattle.physical_plan.specs.Counts.{counts_of};
 ghost use Rattle.physical_plan.specs.Layout.{Part, bare, numbers_from, layout, shape};
-ghost use Rattle.core_frame.specs.Shape.{HasOwners, Ascends, task_at, names, has, is_group, width};
+ghost use Rattle.core_frame.specs.Shape.{task_at, names, has, is_group, width};
 ghost use Rattle.task_trees.specs.Trees.{File, Tree, Nothing, HasInlet, HasConsumer};
 ghost use Rattle.task_trees.specs.Runs.{IsStart, the_task};
 ghost use Rattle.whole_contents.specs.Bags.{SameBag, sum_below};
@@ -41,12 +41,11 @@ pub fn trees_law()
 {}
 
 /// A node's partition is made of its inputs' partitions (`branch`), where the inputs of a join have equally many: its tree, its consumers and
-/// its files. How many partitions a plan and its layout have, its counts say (`parts`, `laid`).
+/// its files. How many partitions a plan has, its counts say (`parts`).
 pub fn branches_law()
     ensures branch { (f : Doing) (z : Plan-F Plan) (k s i : ℕ) → IsEven z → i < (counts_of (roll-Plan z)).parts
         → seed_at f (roll-Plan z) k s i ≡ branch f z k s i }
     ensures parts { (f : Doing) (p : Plan) (k s : ℕ) → width_at f p k s ≡ (counts_of p).parts }
-    ensures laid { (p : Plan) (k : ℕ) → length (layout p k).parts ≡ (counts_of p).parts }
 {}
 
 /// The operators of all kinds of nodes are such as the other laws ask, whatever nodes do to items.
@@ -56,14 +55,11 @@ pub fn operators_law()
 {}
 
 /// The start of a plan is one of its shape, for every plan, whatever its operators, files and hashes are (`start`). A task sends just where it
-/// has a split (`splits`). Each consumer of the shape is one task's (`owners`), and can spill as its node says (`spillable`).
-/// A task's channels ascend (`ascending`).
+/// has a split (`splits`). Each consumer can spill as its node says (`spillable`).
 pub fn start_law()
     ensures start { (f : Doing) → AreOperators f → (p : Plan) (size limit : ℕ) → IsStart (shape p) size limit (start_of f p limit) }
     ensures splits { (f : Doing) → AreOperators f → (p : Plan) (t : ℕ)
         → is_some (the_task (tasks_of f p) t).split ≡ is_some (task_at (shape p) t).sends }
-    ensures owners { (p : Plan) → HasOwners (shape p) }
-    ensures ascending { (p : Plan) (t : ℕ) → Ascends (task_at (shape p) t).receives }
     ensures spillable { (f : Doing) → AreOperators f → (p : Plan) → (shape p).spillable ≡ consumers_over f (all_tops p) }
 {}
 
