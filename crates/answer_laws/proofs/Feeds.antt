@@ -1,7 +1,7 @@
 -- From a run to lists: what trees would give, and what the channels of an exchange hold in whole.
 use Rattle.std.specs.List.{sum_by}
 use Rattle.std.proofs.Common.{ℕ, zero, suc, ◌+◌, ◌<◌, ◌≡◌, refl, sym, ap, ◌∙◌, subst, cond, List, [], ◌∷◌, ◌++◌, length, get_or, map, Bool, true, Some, Ok, arith, zero-add, add-zero}
-use Rattle.std.proofs.lemmas.List.{length-append}
+use Rattle.std.proofs.lemmas.List.{length-append, append-nil}
 use Rattle.std.proofs.lemmas.List.Sums.{sum_by-append}
 use Rattle.run_journal.specs.declared.entry.Entry.{Entry}
 use Rattle.core_frame.specs.Shape.{task_at, is_group, width}
@@ -17,12 +17,13 @@ use Rattle.task_trees.specs.Tasks.{Split, Task}
 use Rattle.task_trees.specs.Runs.{State, the_task, IsReached}
 use Rattle.task_trees.proofs.Wholes.{whole_of}
 use Rattle.whole_contents.specs.Bags.{sum_below}
+use Rattle.whole_contents.specs.Subsequences.{IsSubsequence}
 use Rattle.whole_contents.specs.Senders.{Deal, SendsOnly}
 use Rattle.whole_contents.specs.SenderKinds.{hash_split, hash_deal, is_at}
 use Rattle.whole_contents.specs.Whole.{past_in, tree_in, AreFull}
 use Rattle.whole_contents.proofs.Bags.{sums_same, sums_front}
 use Rattle.whole_contents.proofs.Flows.{flows}
-use Rattle.whole_contents.proofs.Exchanges.{exchanged, passed_at, only_sender as sent_alone}
+use Rattle.whole_contents.proofs.Exchanges.{exchanged, passed_at, only_sender as sent_alone, lone_sender as sent_in_order}
 use Rattle.whole_contents.proofs.SenderKinds.{hash_only}
 use Rattle.plan_tasks.specs.Trees.{Doing, Seed, leaf, partitions_of}
 use Rattle.plan_tasks.specs.Tops.{Way, Top, all_tops, tops, top, Written, width_by}
@@ -31,6 +32,7 @@ use Rattle.plan_tasks.specs.Reading.{AreOperators}
 use Rattle.plan_tasks.specs.Placed.{tasks_before, deal_by, deal_of, consumers_before, IsHashing, HasChannels}
 use Rattle.plan_tasks.proofs.Begun.{is_start}
 use Rattle.plan_tasks.proofs.Placed.{placed, stage_is, feeds, sender_of}
+use Rattle.plan_tasks.proofs.Lone.{lone_sender}
 use Rattle.plan_tasks.proofs.Senders.{are_senders, deal_is, only_sender}
 use Rattle.answer_laws.specs.Gives.{channels, Gives, AllGive}
 use Rattle.answer_laws.specs.Fed.{IsFed, AllFed}
@@ -133,7 +135,7 @@ module _ (f : Doing) (are : AreOperators f) (hashing : IsHashing f) (p : Plan) (
   run_at = exchanged (shape p) (is_shape p) size limit start s entries (is_start f are p size limit) reached (deal_of f p) (are_senders f are hashing p wide) full wholes
 
   pub fed_at : (before after : List Top) (t : Top) → all_tops p ≡ before ++ t ∷ after → 0 < t.stage → IsFed f full t
-  fed_at before after t e l =
+  fed_at before after t e l0 =
       let n = length (seeds_of f t) in
       let xs = map (given_by before) (numbers n) in
       let m : length xs ≡ n = map_length (given_by before) 0 n in
@@ -144,11 +146,17 @@ module _ (f : Doing) (are : AreOperators f) (hashing : IsHashing f) (p : Plan) (
         shared = λ w. (
             let a = weighs_all w (full t.stage) (width_by t.way (length xs)) in
             let b : width_by t.way (length xs) ≡ width (shape p) t.stage = ap (width_by t.way) m ∙ sym v in
-            a ∙ ap (λ (x : ℕ). sum_below x (λ c. sum_by w (full t.stage c))) b ∙ run_at w t.stage ∙ feeds f are p before after t e l (λ u. sum_by w (whole full (tree_in s u))) ∙ sym (weighs_all w (given_by before) n));
+            a ∙ ap (λ (x : ℕ). sum_below x (λ c. sum_by w (full t.stage c))) b ∙ run_at w t.stage ∙ feeds f are p before after t e l0 (λ u. sum_by w (whole full (tree_in s u))) ∙ sym (weighs_all w (given_by before) n));
         own = λ w. ap (channels full t.stage) m ∙ same_map (full t.stage) (given_by before) 0 n (λ i k. (
-            let o = only_sender f are p before after t e l w i k in
+            let o = only_sender f are p before after t e l0 w i k in
             let q = sent_alone (shape p) (is_shape p) size limit start s entries (is_start f are p size limit) reached (deal_of f p) (are_senders f are hashing p wide) full wholes (tasks_before f before + i) t.stage i o in
             ap (full t.stage) (zero-add i) ∙ q ∙ ap (given_by before) (sym (zero-add i))));
+        ordered = λ one c l. (
+            let z : n ≡ 1 = sym m ∙ one in
+            let o = lone_sender f are p before after t e l0 z in
+            let i : c < width (shape p) t.stage = (let y : width_by t.way (length xs) ≡ width_by t.way n = ap (width_by t.way) m in omega arith) in
+            let q = sent_in_order (shape p) (is_shape p) size limit start s entries (is_start f are p size limit) reached (deal_of f p) (are_senders f are hashing p wide) full wholes (tasks_before f before) t.stage o c i in
+            subst (IsSubsequence (full t.stage c)) (sym (ap (λ (x : ℕ). concat (map (given_by before) (numbers x))) z ∙ append-nil (given_by before 0) ∙ ap (λ (u : ℕ). whole full (tree_in s u)) (add-zero (tasks_before f before)))) q);
         hashed = λ columns k w c h. passed_at (shape p) (is_shape p) size limit start s entries (is_start f are p size limit) reached (deal_of f p) (are_senders f are hashing p wide) full wholes
             (is_at (f.channel columns k) c) t.stage c (let z : width_by t.way n ≡ k = ap (λ (y : Way). width_by y n) w in omega arith)
             (λ u split g q. (

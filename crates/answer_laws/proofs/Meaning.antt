@@ -298,7 +298,7 @@ module _ (f : Doing) (tables : Tables) (spread : Plan-F Plan → Bool) (phases :
     sort = λ q keys xs ys h a. (standing.sort q keys xs ys h.0 a, sorts q keys xs ys h.1 a);
     limit = λ q skip fetch xs ys h a. (standing.limit q skip fetch xs ys h.0 a, level (Plan-F.Limit q skip fetch) ys (λ e. absurd (false≢true e)));
     merge = λ q keys xs y h a. (standing.merge q keys xs y h.0 a, merges q keys xs y h.1 a);
-    coalesce = λ q xs y h b. (standing.coalesce q xs y h.0 b, coalesces q xs y h.1 b);
-    repartition = λ q to xs ys h n b s. (standing.repartition q to xs ys h.0 n b s, repartitions q to xs ys h.1 b);
+    coalesce = λ q xs y h b o. (standing.coalesce q xs y h.0 b o, coalesces q xs y h.1 b);
+    repartition = λ q to xs ys h n b s o. (standing.repartition q to xs ys h.0 n b s o, repartitions q to xs ys h.1 b);
     union = λ ps xs h. (let r = stand_apart ps xs h in (standing.union ps xs r.0, unions ps xs r.1));
   }

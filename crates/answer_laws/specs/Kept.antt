@@ -14,6 +14,7 @@ use Rattle.physical_plan.specs.declared.plan.Plan.TheViews.{roll-Plan}
 use Rattle.physical_plan.specs.Layout.{numbers}
 use Rattle.logical_plan.specs.Items.{Item, concat}
 use Rattle.whole_contents.specs.Bags.{SameBag}
+use Rattle.whole_contents.specs.Subsequences.{IsSubsequence}
 use Rattle.whole_contents.specs.SenderKinds.{is_at}
 use Rattle.task_trees.specs.Trees.{in_files}
 use Rattle.plan_tasks.specs.Trees.{Doing, dealt_files}
@@ -30,6 +31,10 @@ AllHold holds (p ∷ ps) (x ∷ xs) = holds p x × AllHold holds ps xs
 -- by a hash, each target has rows of its number only
 abbrev pub AreSplit : Doing → Partitioning → List (List Item) → Type 0
 AreSplit f to ys = (columns : List ℕ) (n : ℕ) → way_to to ≡ ByHash columns n → (c : ℕ) → c < n → AllPass (is_at (f.channel columns n) c) (slice_index_or ys c [])
+
+-- what comes of one input has some of its items, in their order
+abbrev pub KeepsOrder : List (List Item) → List (List Item) → Type 0
+KeepsOrder xs ys = length xs ≡ 1 → (c : ℕ) → c < length ys → IsSubsequence (slice_index_or ys c []) (concat xs)
 
 -- what holds of a node's inputs and what their partitions would give holds of the node and what its partitions would give
 pub record IsKept (f : Doing) (holds : Plan → List (List Item) → Type 0) : Type 0 where
@@ -52,7 +57,8 @@ pub record IsKept (f : Doing) (holds : Plan → List (List Item) → Type 0) : T
   pub merge : (q : Plan) (keys : List SortKey) (xs : List (List Item)) (y : List Item) → holds q xs
       → Answers (f.operator (Plan-F.Merge q keys) (length xs)) xs y → holds (roll-Plan (Plan-F.Merge q keys)) (y ∷ [])
   pub coalesce : (q : Plan) (xs : List (List Item)) (y : List Item) → holds q xs
-      → SameBag y (concat xs) → holds (roll-Plan (Plan-F.Coalesce q)) (y ∷ [])
+      → SameBag y (concat xs) → KeepsOrder xs (y ∷ []) → holds (roll-Plan (Plan-F.Coalesce q)) (y ∷ [])
   pub repartition : (q : Plan) (to : Partitioning) (xs ys : List (List Item)) → holds q xs
-      → length ys ≡ partition_count to → SameBag (concat ys) (concat xs) → AreSplit f to ys → holds (roll-Plan (Plan-F.Repartition q to)) ys
+      → length ys ≡ partition_count to → SameBag (concat ys) (concat xs) → AreSplit f to ys → KeepsOrder xs ys
+      → holds (roll-Plan (Plan-F.Repartition q to)) ys
   pub union : (ps : List Plan) (xs : List (List (List Item))) → AllHold holds ps xs → holds (roll-Plan (Plan-F.UnionAll ps)) (concat xs)

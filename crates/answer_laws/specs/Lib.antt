@@ -4,8 +4,6 @@ pub mod Kept
 pub mod Meant
 pub mod Answering
 pub mod Parted
-pub mod Exchanged
 pub mod Ordered
-pub mod Resorted
-pub mod Engine
+pub mod Finished
 pub mod Distincts

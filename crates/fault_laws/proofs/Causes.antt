@@ -33,8 +33,10 @@ use Rattle.physical_plan.proofs.Shapes.{is_shape}
 use Rattle.task_trees.proofs.Turns.{settle_keeps}
 use Rattle.task_trees.proofs.Runs.{reached as run_reached}
 use Rattle.whole_contents.proofs.Flows.{exist, flows}
-use Rattle.answer_laws.specs.Engine.{IsEngine}
 use Rattle.part_laws.specs.Phased.{the_phases}
+use Rattle.plan_props.specs.Meets.{Hashing}
+use Rattle.finished_plans.specs.Engine.{IsEngineBy}
+use Rattle.finished_plans.proofs.Hashes.{hashing_of}
 use Rattle.fault_laws.specs.Met.{met_of}
 use Rattle.fault_laws.specs.Trees.{Meets, FilesPass}
 use Rattle.fault_laws.specs.Found.{Found, IsIn, is_of_fault, IsToldTop}
@@ -177,22 +179,22 @@ module _ (met : ItemFault → Bool) (named : ℕ → ItemFault → Bool) where
 
   -- ------------------------------------------------------------ a run
 
-  pub caused : (f : Doing) (tables : Tables) → IsEngine f tables the_phases → (p : Plan) → HasChannels p → IsToldTop tables p
+  pub caused : (hash : Hashing) (f : Doing) (tables : Tables) (many : ℕ) → IsEngineBy hash f tables many the_phases → (p : Plan) → HasChannels p → IsToldTop tables many p
       → badly met (met_of tables p) ≡ 0 → FilesPass named (files_of f p 0)
       → (size limit steps : ℕ) (entries : List Entry) (s next : State) (e : Entry) (cause : Cause)
       → state_replay (shape p) size steps (Some (start_of f p limit)) entries ≡ Some s → state_step (shape p) size steps s e ≡ Some next
       → e.kind ≡ Failed cause → is_of_fault cause ≡ true → Found met named cause
-  caused f tables engine p wide told m files size limit steps entries s next e cause replay step k of =
+  caused hash f tables many engine p wide told m files size limit steps entries s next e cause replay step k of =
       let start = start_of f p limit in
       let begins = is_start f engine.operators p size limit in
       let reached = run_reached (shape p) (is_shape p) size steps limit start begins entries s replay in
       let full = exist (shape p) (is_shape p) size limit start s entries begins reached (deal_of f p) in
       let u = e.task in
-      let flow = flows (shape p) (is_shape p) size limit start s entries begins reached (deal_of f p) (are_senders f engine.operators engine.hashing p wide) full.0 full.1 u in
-      let meets = tasks_meet f tables engine full.0 met p wide told m size limit entries s reached full.1 u in
+      let flow = flows (shape p) (is_shape p) size limit start s entries begins reached (deal_of f p) (are_senders f engine.operators (hashing_of hash f engine.channels) p wide) full.0 full.1 u in
+      let meets = tasks_meet hash f tables many engine full.0 met p wide told m size limit entries s reached full.1 u in
       let w = state_fails (shape p) size steps s next e cause k of step in
       let wait = settle_keeps size steps (past_in s u) (the_task s.tasks u) w.0 (reached.task u) w.1 in
-      let pass = leaves.replayed named (shape p) size steps start s entries (starts named f engine.operators p limit (top_reads tables p told) files) replay in
+      let pass = leaves.replayed named (shape p) size steps start s entries (starts named f engine.operators p limit (top_reads tables many p told) files) replay in
       let own = subst (leaves.WaitPasses named) w.1 (leaves.settles named size steps (the_task s.tasks u) (pass u)) in
       let now = w.0.now in
       let found = fails.found met named size (past_in s u) full.0 now.tree wait.before.task.linked
@@ -201,14 +203,14 @@ module _ (met : ItemFault → Bool) (named : ℕ → ItemFault → Bool) where
       let last : NeedFound met named w.0.need = subst TurnFound (settled_turn size steps (the_task s.tasks u) w.0 w.1) turns in
       subst (NeedFound met named) w.2 last
 
-pub ends : (f : Doing) (tables : Tables) → IsEngine f tables the_phases → (p : Plan) → HasChannels p → IsToldTop tables p
+pub ends : (hash : Hashing) (f : Doing) (tables : Tables) (many : ℕ) → IsEngineBy hash f tables many the_phases → (p : Plan) → HasChannels p → IsToldTop tables many p
     → (size limit steps : ℕ) (entries : List Entry) (s next : State) (e : Entry) (cause : Cause)
     → state_replay (shape p) size steps (Some (start_of f p limit)) entries ≡ Some s → state_step (shape p) size steps s e ≡ Some next
     → e.kind ≡ Failed cause → is_of_fault cause ≡ true → found.Ends (met_of tables p) (files_of f p 0) cause
-ends f tables engine p wide told size limit steps entries s next e cause replay step k of =
+ends hash f tables many engine p wide told size limit steps entries s next e cause replay step k of =
     let mets = met_of tables p in
     let files = files_of f p 0 in
-    let r = caused (is_in mets) (is_at files) f tables engine p wide told (all_in mets) (all_at files) size limit steps entries s next e cause replay step k of in (
+    let r = caused (is_in mets) (is_at files) hash f tables many engine p wide told (all_in mets) (all_at files) size limit steps entries s next e cause replay step k of in (
       r.0,
       found_in mets r.0 r.1,
       elim r.2 [

@@ -41,12 +41,13 @@ use Rattle.answer_laws.specs.Gives.{Answers, AllAnswer, AllJoin}
 use Rattle.answer_laws.specs.Kept.{AllHold, IsKept}
 use Rattle.answer_laws.specs.Meant.{Grouping, answered, meaning_of, meant, TellsBy, files_of, is_whole, all_told, same_numbers, same_calls, finishes, told_node, is_told}
 use Rattle.answer_laws.specs.Parted.{part}
-use Rattle.answer_laws.specs.Exchanged.{on_exchanges}
-use Rattle.answer_laws.specs.Engine.{IsEngine}
 use Rattle.answer_laws.proofs.Weights.{concat-append, flat_weighs, map_weighs, weighed, together_weighs, together_all, dealt, listed}
 use Rattle.answer_laws.proofs.Meaning.{both_true, above_zero, equal_is, all_pass, same_numbers_are, same_calls_are, told_whole, segmented, seconds, joins_weigh}
-use Rattle.answer_laws.proofs.Laws.{Stands, stands_kept, delivers, Means, all_kept}
+use Rattle.finished_plans.proofs.Answers.{Standing, standing, delivers, Means, all_kept}
 use Rattle.part_laws.specs.Phased.{the_phases}
+use Rattle.plan_props.specs.Meets.{Hashing}
+use Rattle.finished_plans.specs.Sound.{on_properties}
+use Rattle.finished_plans.specs.Engine.{IsEngineBy}
 use Rattle.fault_laws.specs.Met.{met_node, met_of}
 
 -- ------------------------------------------------------------ weights of faults that don't pass
@@ -118,19 +119,19 @@ regrouped test (column ∷ columns) calls kinds items fs e h k =
     let b4 : sum_by w (answers (rows input)) ≡ sum_by w (answers (rows items)) = ap (λ rs. sum_by w (answers rs)) (rows_both fs (rows items)) in
     omega arith
 
-module _ (f : Doing) (tables : Tables) (engine : IsEngine f tables the_phases) (test : ItemFault → Bool) where
+module _ (hash : Hashing) (f : Doing) (tables : Tables) (many : ℕ) (engine : IsEngineBy hash f tables many the_phases) (test : ItemFault → Bool) where
   abbrev Meets : Plan → List (List Item) → Type 0
-  Meets p xs = is_told tables on_exchanges p ≡ true → badly test (met_of tables p) ≡ 0 → sum_by (bad test) (concat xs) ≡ 0
+  Meets p xs = is_told tables (on_properties tables many) p ≡ true → badly test (met_of tables p) ≡ 0 → sum_by (bad test) (concat xs) ≡ 0
 
   abbrev Tells_of : Plan → List (List Item) → Type 0
-  Tells_of = Means f tables the_phases engine
+  Tells_of = Means hash f tables many the_phases engine
 
   level : (z : Plan-F Plan) (xs : List (List Item))
-      → (told_node tables on_exchanges (map-Plan Plan (Plan × Bool) (λ p. (p, is_told tables on_exchanges p)) z) ≡ true
+      → (told_node tables (on_properties tables many) (map-Plan Plan (Plan × Bool) (λ p. (p, is_told tables (on_properties tables many) p)) z) ≡ true
       → badly test (met_node tables (map-Plan Plan (Plan × List ItemFault) (λ p. (p, met_of tables p)) z)) ≡ 0 → sum_by (bad test) (concat xs) ≡ 0)
       → Meets (roll-Plan z) xs
   unfolding is_told met_of
-  level z xs h = (let a = para-roll-Plan Bool (told_node tables on_exchanges) z in let b = para-roll-Plan (List ItemFault) (met_node tables) z in rw (a, b) h)
+  level z xs h = (let a = para-roll-Plan Bool (told_node tables (on_properties tables many)) z in let b = para-roll-Plan (List ItemFault) (met_node tables) z in rw (a, b) h)
 
   scanned : (table : ℕ) (kinds : List Kind) (files partitions source : ℕ)
       → Meets (roll-Plan (Plan-F.Scan table kinds files partitions)) (map (λ (i : ℕ). in_files (dealt_files (f.items table) source files partitions i)) (numbers partitions))
@@ -147,7 +148,7 @@ module _ (f : Doing) (tables : Tables) (engine : IsEngine f tables the_phases) (
   filters q t xs ys h i a = level (Plan-F.Filter q t) ys (λ e m. (
       let w = bad test in
       let means = meaning_of tables q in
-      let b = both_true (is_told tables on_exchanges q) (is_whole means) e in
+      let b = both_true (is_told tables (on_properties tables many) q) (is_whole means) e in
       let c = sum_by-append (fails test) (faults (flat_map (filtered t) means.items)) (met_of tables q) in
       let d = bads test (flat_map (filtered t) means.items) in
       let v : Item → ℕ = λ x. sum_by w (filtered t x) in
@@ -160,7 +161,7 @@ module _ (f : Doing) (tables : Tables) (engine : IsEngine f tables the_phases) (
   projects q is xs ys h i a = level (Plan-F.Project q is) ys (λ e m. (
       let w = bad test in
       let means = meaning_of tables q in
-      let b = both_true (is_told tables on_exchanges q) (is_whole means) e in
+      let b = both_true (is_told tables (on_properties tables many) q) (is_whole means) e in
       let c = sum_by-append (fails test) (faults (map (projected is) means.items)) (met_of tables q) in
       let d = bads test (map (projected is) means.items) in
       let v : Item → ℕ = λ x. w (projected is x) in
@@ -172,8 +173,8 @@ module _ (f : Doing) (tables : Tables) (engine : IsEngine f tables the_phases) (
   partials : (q : Plan) (keys : List ℕ) (calls : List AggCall) (xs ys : List (List Item)) → Meets q xs → AllAnswer (f.operator (Plan-F.PartialGroup q keys calls) 1) xs ys → Meets (roll-Plan (Plan-F.PartialGroup q keys calls)) ys
   partials q keys calls xs ys i a = level (Plan-F.PartialGroup q keys calls) ys (λ e m. (
       let means = meaning_of tables q in
-      let b = both_true (is_told tables on_exchanges q) (is_whole means) e in
-      let s = segmented f tables on_exchanges the_phases engine.answering engine.lists (Stands f tables the_phases engine) (stands_kept f tables the_phases engine) (delivers f tables the_phases engine)
+      let b = both_true (is_told tables (on_properties tables many) q) (is_whole means) e in
+      let s = segmented f tables (on_properties tables many) the_phases engine.answering engine.lists (Standing hash f tables many the_phases engine) (standing hash f tables many the_phases engine) (delivers hash f tables many the_phases engine)
       q keys calls (record { told = b.0; items = b.1 }) xs ys a in
       let c = faults-phase keys calls means.kinds s.0 in
       s.2 (bad test) ∙ sym (bads test (flat_map (phase keys calls means.kinds) s.0)) ∙ ap (badly test) c ∙ bads test (concat s.0) ∙ ap (sum_by (bad test)) s.1 ∙ i b.0 m))
@@ -196,7 +197,7 @@ module _ (f : Doing) (tables : Tables) (engine : IsEngine f tables the_phases) (
   repartitions q to xs ys i b = level (Plan-F.Repartition q to) ys (λ e m. b (bad test) ∙ i e m)
 
   all_meet : (ps : List Plan) (xs : List (List (List Item))) → AllHold Meets ps xs
-      → all_told (λ p. is_whole (meaning_of tables p)) (map (λ (p : Plan). (p, is_told tables on_exchanges p)) ps) ≡ true
+      → all_told (λ p. is_whole (meaning_of tables p)) (map (λ (p : Plan). (p, is_told tables (on_properties tables many) p)) ps) ≡ true
       → badly test (concat (map (λ (p : Plan × List ItemFault). p.1) (map (λ (p : Plan). (p, met_of tables p)) ps))) ≡ 0
       → sum_by (bad test) (concat (concat xs)) ≡ 0
   all_meet [] [] h e m = refl
@@ -204,8 +205,8 @@ module _ (f : Doing) (tables : Tables) (engine : IsEngine f tables the_phases) (
   all_meet (p ∷ ps) [] h e m = absurd h
   all_meet (p ∷ ps) (x ∷ xs) h e m =
       let rest = concat (map (λ (p : Plan × List ItemFault). p.1) (map (λ (p : Plan). (p, met_of tables p)) ps)) in
-      let all = all_told (λ p. is_whole (meaning_of tables p)) (map (λ (p : Plan). (p, is_told tables on_exchanges p)) ps) in
-      let b = both_true (is_told tables on_exchanges p) (is_whole (meaning_of tables p) && all) e in
+      let all = all_told (λ p. is_whole (meaning_of tables p)) (map (λ (p : Plan). (p, is_told tables (on_properties tables many) p)) ps) in
+      let b = both_true (is_told tables (on_properties tables many) p) (is_whole (meaning_of tables p) && all) e in
       let d = both_true (is_whole (meaning_of tables p)) all b.1 in
       let s = sum_by-append (fails test) (met_of tables p) rest in
       let n : badly test (met_of tables p) ≡ 0 = omega arith in
@@ -230,14 +231,14 @@ module _ (f : Doing) (tables : Tables) (engine : IsEngine f tables the_phases) (
       let w = bad test in
       let mp = meaning_of tables p in
       let mq = meaning_of tables q in
-      let s = on_exchanges (Plan-F.HashJoin kind p q keys rest) in
-      let b = both_true (is_told tables on_exchanges p && is_whole mp) ((is_told tables on_exchanges q && is_whole mq) && s) e in
-      let c = both_true (is_told tables on_exchanges p) (is_whole mp) b.0 in
-      let d = both_true (is_told tables on_exchanges q && is_whole mq) s b.1 in
-      let k = both_true (is_told tables on_exchanges q) (is_whole mq) d.0 in
+      let s = (on_properties tables many) (Plan-F.HashJoin kind p q keys rest) in
+      let b = both_true (is_told tables (on_properties tables many) p && is_whole mp) ((is_told tables (on_properties tables many) q && is_whole mq) && s) e in
+      let c = both_true (is_told tables (on_properties tables many) p) (is_whole mp) b.0 in
+      let d = both_true (is_told tables (on_properties tables many) q && is_whole mq) s b.1 in
+      let k = both_true (is_told tables (on_properties tables many) q) (is_whole mq) d.0 in
       let t = told_whole the_phases mp.groups mp.items xs c.1 (h.1 c.0) in
       let u = told_whole the_phases mq.groups mq.items ys k.1 (i.1 k.0) in
-      let o = (delivers f tables the_phases engine).matched kind p q keys rest xs ys d.1 h.0 i.0 in
+      let o = (delivers hash f tables many the_phases engine).matched kind p q keys rest xs ys d.1 h.0 i.0 in
       let n = length xs in
       let lw = length mp.kinds in
       let rw2 = length mq.kinds in
@@ -254,7 +255,7 @@ module _ (f : Doing) (tables : Tables) (engine : IsEngine f tables the_phases) (
       let z = parts_faults kind lw rw2 keys rest mp.items mq.items n (part xs) (part ys) test (λ v blind. bl v ∙ t v blind) (λ v blind. br v ∙ u v blind) o.1 pl pr (pass_from test (faults all) na) in
       let given = together n (λ j. join_items kind lw rw2 keys rest (part xs j) (part ys j)) in
       let y : sum_by w given ≡ 0 = sym (bads test given) ∙ pass_weigh test (faults given) z in
-      joins_weigh f tables on_exchanges the_phases engine.answering engine.lists (Stands f tables the_phases engine) (stands_kept f tables the_phases engine) (delivers f tables the_phases engine)
+      joins_weigh f tables (on_properties tables many) the_phases engine.answering engine.lists (Standing hash f tables many the_phases engine) (standing hash f tables many the_phases engine) (delivers hash f tables many the_phases engine)
       kind p q keys rest (record { told = c.0; items = c.1 }) (record { told = k.0; items = k.1 }) w xs ys zs o.0 a
       ∙ sums_same n (λ j. sum_by w (joined kind lw rw2 keys rest (part xs j) (part ys j))) (λ j. sum_by w (join_items kind lw rw2 keys rest (part xs j) (part ys j)))
       (λ j l. sym (one_join w kind lw rw2 keys rest (part xs j) (part ys j)))
@@ -266,8 +267,8 @@ module _ (f : Doing) (tables : Tables) (engine : IsEngine f tables the_phases) (
   finals q keys calls xs ys h i a = level (Plan-F.FinalGroup q keys calls) ys (λ e m. (
       let means = meaning_of tables q in
       let t = finishes means.groups keys calls (rows means.items) in
-      let s = on_exchanges (Plan-F.FinalGroup q keys calls) in
-      let b = both_true (is_told tables on_exchanges q) (t && s) e in
+      let s = (on_properties tables many) (Plan-F.FinalGroup q keys calls) in
+      let b = both_true (is_told tables (on_properties tables many) q) (t && s) e in
       let d = both_true t s b.1 in
       let c = sum_by-append (fails test) (faults (answered means.groups means.items).items) (met_of tables q) in
       let n : badly test (met_of tables q) ≡ 0 = omega arith in
@@ -275,7 +276,7 @@ module _ (f : Doing) (tables : Tables) (engine : IsEngine f tables the_phases) (
       by means.groups refl (h.1 b.0) d.0 d.1 (i b.0 n) o))
     where
       by : (o : Option Grouping) → (meaning_of tables q).groups ≡ o → TellsBy the_phases o (meaning_of tables q).items xs → finishes o keys calls (rows (meaning_of tables q).items) ≡ true
-          → on_exchanges (Plan-F.FinalGroup q keys calls) ≡ true → sum_by (bad test) (concat xs) ≡ 0 → badly test (faults (answered o (meaning_of tables q).items).items) ≡ 0
+          → (on_properties tables many) (Plan-F.FinalGroup q keys calls) ≡ true → sum_by (bad test) (concat xs) ≡ 0 → badly test (faults (answered o (meaning_of tables q).items).items) ≡ 0
           → sum_by (bad test) (concat ys) ≡ 0
       by None e t n s c o = absurd (false≢true n)
       by (Some g) e t n s c o =
@@ -286,7 +287,7 @@ module _ (f : Doing) (tables : Tables) (engine : IsEngine f tables the_phases) (
           let d = both_true (same_calls calls g.calls) (all_are g.kinds (rows is)) b.1 in
           let k = same_numbers_are keys (numbers (length g.columns)) b.0 in
           let l = same_calls_are calls g.calls d.0 in
-          let apart = subst (λ (ks : List ℕ). AreApart ks (length xs) (part xs)) k ((delivers f tables the_phases engine).gathered q keys calls xs s h.0) in
+          let apart = subst (λ (ks : List ℕ). AreApart ks (length xs) (part xs)) k ((delivers hash f tables many the_phases engine).gathered q keys calls xs s h.0) in
           let fs = faults (concat segments) in
           let input = of_faults fs ++ of_rows (rows is) in
           let clear : badly test fs ≡ 0 = (sym (ap (badly test) (faults-phase g.columns g.calls g.kinds segments)) ∙ bads test (flat_map (phase g.columns g.calls g.kinds) segments) ∙ sym (t.2 w) ∙ c) in
@@ -304,7 +305,7 @@ module _ (f : Doing) (tables : Tables) (engine : IsEngine f tables the_phases) (
           (subst (AllPass (are_of g.kinds)) (sym same_rows) (all_pass g.kinds (rows is) d.1)) bag came apart (subst (AllPass test) (sym same_faults) own)
           (pass_from test (faults (aggregated g.columns g.calls g.kinds input)) (regrouped test g.columns g.calls g.kinds is fs (alike_faults (concat segments) is t.1) clear o)) in
           let given = together (length xs) (λ j. the_phases.second g (part xs j)) in
-          seconds f tables on_exchanges the_phases engine.answering engine.lists (Stands f tables the_phases engine) (stands_kept f tables the_phases engine) (delivers f tables the_phases engine)
+          seconds f tables (on_properties tables many) the_phases engine.answering engine.lists (Standing hash f tables many the_phases engine) (standing hash f tables many the_phases engine) (delivers hash f tables many the_phases engine)
           q keys calls g e k l w xs ys a ∙ sym (bads test given) ∙ pass_weigh test (faults given) z
 
   -- ------------------------------------------------------------ every node
@@ -319,7 +320,7 @@ module _ (f : Doing) (tables : Tables) (engine : IsEngine f tables the_phases) (
   stand_apart (p ∷ ps) (x ∷ xs) h = (let r = stand_apart ps xs h.1 in ((h.0.0, r.0), (h.0.1, r.1)))
 
   pub kept : IsKept f Holds
-  kept = (let told = all_kept f tables the_phases engine in record {
+  kept = (let told = all_kept hash f tables many the_phases engine in record {
     scan = λ table kinds files partitions source. (told.scan table kinds files partitions source, scanned table kinds files partitions source);
     filter = λ q t xs ys h a. (told.filter q t xs ys h.0 a, filters q t xs ys h.0 h.1 a);
     project = λ q is xs ys h a. (told.project q is xs ys h.0 a, projects q is xs ys h.0 h.1 a);
@@ -329,7 +330,7 @@ module _ (f : Doing) (tables : Tables) (engine : IsEngine f tables the_phases) (
     sort = λ q keys xs ys h a. (told.sort q keys xs ys h.0 a, sorts q keys xs ys h.1 a);
     limit = λ q skip fetch xs ys h a. (told.limit q skip fetch xs ys h.0 a, level (Plan-F.Limit q skip fetch) ys (λ e. absurd (false≢true e)));
     merge = λ q keys xs y h a. (told.merge q keys xs y h.0 a, merges q keys xs y h.1 a);
-    coalesce = λ q xs y h b. (told.coalesce q xs y h.0 b, coalesces q xs y h.1 b);
-    repartition = λ q to xs ys h n b s. (told.repartition q to xs ys h.0 n b s, repartitions q to xs ys h.1 b);
+    coalesce = λ q xs y h b o. (told.coalesce q xs y h.0 b o, coalesces q xs y h.1 b);
+    repartition = λ q to xs ys h n b s o. (told.repartition q to xs ys h.0 n b s o, repartitions q to xs ys h.1 b);
     union = λ ps xs h. (let r = stand_apart ps xs h in (told.union ps xs r.0, unions ps xs r.1));
   })

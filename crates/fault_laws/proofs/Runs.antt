@@ -3,10 +3,10 @@ use Rattle.std.specs.List.{AllPass, sum_by}
 use Rattle.std.proofs.Common.{ℕ, zero, suc, ◌+◌, ◌<◌, ◌≡◌, ◌⊎◌, inl, inr, refl, sym, ap, ◌∙◌, subst, List, [], ◌∷◌, ◌++◌, length, get_or, map, take, drop, Bool, true, Option, Some, None, arith}
 use Rattle.std.proofs.lemmas.List.Sums.{sum_by-append, sum_by-cons}
 use Rattle.dfx_value.specs.declared.fault.ItemFault.{ItemFault}
-use Rattle.dfx_value.specs.declared.rows.SortKey.{SortKey}
 use Rattle.run_journal.specs.declared.entry.Entry.{Entry}
 use Rattle.physical_plan.specs.declared.plan.Plan.{Plan}
 use Rattle.physical_plan.specs.declared.plan.Plan.TheOpen.{Plan-F}
+use Rattle.physical_plan.specs.declared.plan.Plan.TheViews.{roll-Plan}
 use Rattle.physical_plan.specs.Layout.{shape, numbers}
 use Rattle.logical_plan.specs.Items.{Item, faults, concat}
 use Rattle.logical_plan.specs.Body.{Tables}
@@ -17,7 +17,7 @@ use Rattle.task_trees.specs.Operators.{Told, IsSplit, ReadsAll, Op}
 use Rattle.task_trees.specs.Linked.{whole}
 use Rattle.task_trees.specs.OperatorKinds as ops
 use Rattle.whole_contents.specs.Whole.{tree_in, AreFull}
-use Rattle.plan_tasks.specs.Trees.{Doing, Growing, Seed, leaf, node, partitions_of, passing, holding, tree_of}
+use Rattle.plan_tasks.specs.Trees.{Doing, Growing, Seed, leaf, node, partitions_of, passing, tree_of}
 use Rattle.plan_tasks.specs.Tops.{Topping, Top, tops, all_tops}
 use Rattle.plan_tasks.specs.Starts.{seeds_of, start_of, tasks_of}
 use Rattle.plan_tasks.specs.Reading.{AreOperators, Opens}
@@ -31,20 +31,20 @@ use Rattle.plan_tasks.proofs.Sources.{all_read}
 use Rattle.join_parts.proofs.Items.{pass_weigh, pass_from}
 use Rattle.answer_laws.specs.Gives.{AllGive}
 use Rattle.answer_laws.specs.Fed.{AllFed}
-use Rattle.answer_laws.specs.Meant.{is_told}
-use Rattle.answer_laws.specs.Exchanged.{on_exchanges}
-use Rattle.answer_laws.specs.Engine.{IsEngine}
 use Rattle.answer_laws.proofs.Feeds.{fed, root_gives}
 use Rattle.answer_laws.proofs.Splits as splits
 use Rattle.part_laws.specs.Phased.{the_phases}
+use Rattle.plan_props.specs.Meets.{Hashing}
+use Rattle.finished_plans.specs.Engine.{IsEngineBy}
+use Rattle.finished_plans.proofs.Hashes.{hashing_of}
 use Rattle.fault_laws.specs.Met.{met_of}
 use Rattle.fault_laws.specs.Trees.{Evaluates, GivesOnly, Meets, AllMeet, TopsMeet, FilesPass, LeavesPass}
-use Rattle.fault_laws.specs.Found.{Sorts, Cuts, Cap, capped, IsToldTop}
+use Rattle.fault_laws.specs.Found.{IsTold, IsToldTop}
 use Rattle.fault_laws.proofs.Meets.{bad, badly, bads}
 use Rattle.fault_laws.proofs.Everywhere.{everywhere}
 use Rattle.fault_laws.proofs.Everywhere as around
 use Rattle.fault_laws.proofs.Bodies.{mets}
-use Rattle.fault_laws.proofs.Evaluations.{limit_evaluates, sort_evaluates}
+use Rattle.fault_laws.proofs.Evaluations.{limit_evaluates}
 use Rattle.fault_laws.proofs.Fails.{take_less, drop_less}
 
 -- ------------------------------------------------------------ the tasks of a start
@@ -154,24 +154,18 @@ module _ (full : ℕ → ℕ → List Item) (test : ItemFault → Bool) where
   passed op v keeps [] m = tt
   passed op v keeps (s ∷ ss) m = (λ c. over_cap (op c) (s.tree c) (v c) (keeps c) (m.0 c), passed op v keeps ss m.1)
 
-  held : (b : Bool) (op : ℕ → Op) → ((c : ℕ) → Evaluates (op c)) → ((c : ℕ) → Keeps (op c)) → (ss : List Seed) → AllMeet test full ss → AllMeet test full (map (holding b op) ss)
-  held b op v keeps [] m = tt
-  held b op v keeps (s ∷ ss) m = (λ c. over_cap (op c) (s.tree (c + 1)) (v c) (keeps c) (m.0 (c + 1)), held b op v keeps ss m.1)
-
-module _ (f : Doing) (tables : Tables) (engine : IsEngine f tables the_phases) (full : ℕ → ℕ → List Item) (test : ItemFault → Bool) where
+module _ (hash : Hashing) (f : Doing) (tables : Tables) (many : ℕ) (engine : IsEngineBy hash f tables many the_phases) (full : ℕ → ℕ → List Item) (test : ItemFault → Bool) where
   cuts : (q : Plan) (skip : ℕ) (fetch : Option ℕ) (c : ℕ) → Keeps full test (f.operator (Plan-F.Limit q skip fetch) 1 c)
   cuts q skip fetch c t ins s r h = subst (λ (o : Op). AllPass test (faults (o.whole t ins))) (sym (engine.limits q skip fetch c)) (cut_less full test skip fetch (ins 0) h)
 
-  sorts : (q : Plan) (keys : List SortKey) (c : ℕ) → Keeps full test (f.operator (Plan-F.Sort q keys) 1 c)
-  sorts q keys c t ins s r h =
-      let xs = (f.operator (Plan-F.Sort q keys) 1 c).whole t ins in
-      pass_from test (faults xs) (bads test xs ∙ engine.answering.sort q keys c t ins s r (bad test) ∙ sym (bads test (ins 0)) ∙ pass_weigh test (faults (ins 0)) h)
+  plain : (p : Plan) → IsTold tables many p → badly test (met_of tables p) ≡ 0 → (k s : ℕ) → AllFed f full (tops p k s)
+      → (xs : List (List Item)) → AllGive full (partitions_of f p k s) xs → TopsMeet f test full (tops p k s) × AllMeet test full (partitions_of f p k s)
+  plain p e m k s fed xs g = (let r = everywhere hash f tables many engine full test p k s fed e m in (r.0, r.1 xs g))
 
-  all_capped : (cs : List Cap) (q : Plan) → is_told tables on_exchanges q ≡ true → badly test (met_of tables (capped cs q)) ≡ 0 → (k s : ℕ) → AllFed f full (tops (capped cs q) k s)
-      → (xs : List (List Item)) → AllGive full (partitions_of f (capped cs q) k s) xs → TopsMeet f test full (tops (capped cs q) k s) × AllMeet test full (partitions_of f (capped cs q) k s)
-  all_capped [] q e m k s fed xs g = (let r = everywhere f tables engine full test q k s fed e m in (r.0, r.1 xs g))
-  all_capped (Cuts skip fetch ∷ cs) q e m k s fed xs g =
-      let p = capped cs q in
+  limited : (p : Plan) (skip : ℕ) (fetch : Option ℕ) → IsTold tables many p → badly test (met_of tables (roll-Plan (Plan-F.Limit p skip fetch))) ≡ 0 → (k s : ℕ) → AllFed f full (tops (roll-Plan (Plan-F.Limit p skip fetch)) k s)
+      → (xs : List (List Item)) → AllGive full (partitions_of f (roll-Plan (Plan-F.Limit p skip fetch)) k s) xs
+      → TopsMeet f test full (tops (roll-Plan (Plan-F.Limit p skip fetch)) k s) × AllMeet test full (partitions_of f (roll-Plan (Plan-F.Limit p skip fetch)) k s)
+  limited p skip fetch e m k s fed xs g =
       let z = Plan-F.Limit p skip fetch in
       let op = f.operator z 1 in
       let a = grown f z in
@@ -179,36 +173,25 @@ module _ (f : Doing) (tables : Tables) (engine : IsEngine f tables the_phases) (
       let fed2 : AllFed f full (tops p k s) = subst (λ (t : Topping). AllFed f full (t k s)) b fed in
       let g2 : AllGive full (map (passing op) (partitions_of f p k s)) xs = subst (λ (h : Growing). AllGive full (h k s) xs) a g in
       let d = splits.passed full op (partitions_of f p k s) xs g2 in
-      let r = all_capped cs q e (ap (badly test) (sym (mets tables z)) ∙ m) k s fed2 d.0 d.1 in
-      let u : AllMeet test full (map (passing op) (partitions_of f p k s)) = passed full test op (limit_evaluates f tables engine p skip fetch) (cuts p skip fetch) (partitions_of f p k s) r.1 in
-      (subst (λ (t : Topping). TopsMeet f test full (t k s)) (sym b) r.0, subst (λ (h : Growing). AllMeet test full (h k s)) (sym a) u)
-  all_capped (Sorts keys ∷ cs) q e m k s fed xs g =
-      let p = capped cs q in
-      let z = Plan-F.Sort p keys in
-      let op = f.operator z 1 in
-      let a = grown f z in
-      let b = topped z in
-      let fed2 : AllFed f full (tops p k s) = subst (λ (t : Topping). AllFed f full (t k s)) b fed in
-      let g2 : AllGive full (map (holding true op) (partitions_of f p k s)) xs = subst (λ (h : Growing). AllGive full (h k s) xs) a g in
-      let d = splits.held full true op (partitions_of f p k s) xs g2 in
-      let r = all_capped cs q e (ap (badly test) (sym (mets tables z)) ∙ m) k s fed2 d.0 d.1 in
-      let u : AllMeet test full (map (holding true op) (partitions_of f p k s)) = held full test true op (sort_evaluates f tables engine p keys) (sorts p keys) (partitions_of f p k s) r.1 in
+      let r = plain p e (ap (badly test) (sym (mets tables z)) ∙ m) k s fed2 d.0 d.1 in
+      let u : AllMeet test full (map (passing op) (partitions_of f p k s)) = passed full test op (limit_evaluates hash f tables many engine p skip fetch) (cuts p skip fetch) (partitions_of f p k s) r.1 in
       (subst (λ (t : Topping). TopsMeet f test full (t k s)) (sym b) r.0, subst (λ (h : Growing). AllMeet test full (h k s)) (sym a) u)
 
-  all_tops_meet : (p : Plan) → IsToldTop tables p → badly test (met_of tables p) ≡ 0 → AllFed f full (tops p 1 0) → (xs : List (List Item)) → AllGive full (partitions_of f p 1 0) xs → TopsMeet f test full (all_tops p)
-  all_tops_meet p told m fed xs g =
-      let e = told.2 in
-      let r = all_capped told.1 told.0 told.3 (subst (λ (y : Plan). badly test (met_of tables y) ≡ 0) (sym e) m) 1 0 (subst (λ (y : Plan). AllFed f full (tops y 1 0)) (sym e) fed) xs
+  all_tops_meet : (p : Plan) → IsToldTop tables many p → badly test (met_of tables p) ≡ 0 → AllFed f full (tops p 1 0) → (xs : List (List Item)) → AllGive full (partitions_of f p 1 0) xs → TopsMeet f test full (all_tops p)
+  all_tops_meet p (inl t) m fed xs g = (let r = plain p t m 1 0 fed xs g in (r.1, r.0))
+  all_tops_meet p (inr l) m fed xs g =
+      let e = l.3 in
+      let r = limited l.0 l.1 l.2 l.4 (subst (λ (y : Plan). badly test (met_of tables y) ≡ 0) (sym e) m) 1 0 (subst (λ (y : Plan). AllFed f full (tops y 1 0)) (sym e) fed) xs
       (subst (λ (y : Plan). AllGive full (partitions_of f y 1 0) xs) (sym e) g) in
       subst (λ (y : Plan). TopsMeet f test full (all_tops y)) e (r.1, r.0)
 
   -- in a reached state each task, and each tree in one, would give faults that the plan meets
-  pub tasks_meet : (p : Plan) → HasChannels p → IsToldTop tables p → badly test (met_of tables p) ≡ 0
+  pub tasks_meet : (p : Plan) → HasChannels p → IsToldTop tables many p → badly test (met_of tables p) ≡ 0
       → (size limit : ℕ) (entries : List Entry) (s : State) → IsReached (shape p) size limit (start_of f p limit) entries s → AreFull (shape p) s (deal_of f p) full
       → (u : ℕ) → Meets test full (form (tree_in s u))
   tasks_meet p wide told m size limit entries s reached wholes u =
-      let feeds = fed f engine.operators engine.hashing p wide size limit entries s full reached wholes in
-      let root = root_gives f engine.operators engine.hashing p wide size limit entries s full reached wholes in
+      let feeds = fed f engine.operators (hashing_of hash f engine.channels) p wide size limit entries s full reached wholes in
+      let root = root_gives f engine.operators (hashing_of hash f engine.channels) p wide size limit entries s full reached wholes in
       let all = all_tops_meet p told m feeds (map (λ (i : ℕ). whole full (tree_in s i)) (numbers (length (partitions_of f p 1 0)))) root in
       subst (Meets test full) (sym (reached.form u))
       (each_task f engine.operators p limit (λ t. Meets test full (form t)) (around.nothing full test)

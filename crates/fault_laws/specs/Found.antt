@@ -3,7 +3,6 @@ use Rattle.std.specs.Prelude.{ℕ, ◌≡◌, ◌⊎◌, Bool, true, false, Opti
 use Rattle.dfx_value.specs.declared.fault.EvalFault.{EvalFault}
 use Rattle.dfx_value.specs.declared.fault.ItemFault.{ItemFault}
 use Rattle.dfx_value.specs.declared.fault.ItemFault.TheVariants.{Evaluation}
-use Rattle.dfx_value.specs.declared.rows.SortKey.{SortKey}
 use Rattle.run_journal.specs.declared.cause.Cause.{Cause}
 use Rattle.run_journal.specs.declared.cause.Cause.TheVariants as why
 use Rattle.physical_plan.specs.declared.plan.Plan.{Plan}
@@ -13,7 +12,7 @@ use Rattle.logical_plan.specs.Items.{faults}
 use Rattle.logical_plan.specs.Body.{Tables}
 use Rattle.task_trees.specs.Trees.{File, cause_at}
 use Rattle.answer_laws.specs.Meant.{is_told}
-use Rattle.answer_laws.specs.Exchanged.{on_exchanges}
+use Rattle.finished_plans.specs.Sound.{on_properties}
 
 -- the fault is that of an evaluation, and so is the cause
 abbrev pub IsEvaluation : ItemFault → Cause → Type 0
@@ -43,20 +42,11 @@ is_of_fault _ = false
 
 -- ------------------------------------------------------------ plans and runs
 
--- what may stand on a plan that can be told
-pub data Cap : Type 0 where
-  Sorts : (keys : List SortKey) → Cap
-  Cuts : (skip : ℕ) (fetch : Option ℕ) → Cap
+-- the plan can be told, with groups and joins spread as it declares
+abbrev pub IsTold : Tables → ℕ → Plan → Type 0
+IsTold tables n p = is_told tables (on_properties tables n) p ≡ true
 
-abbrev pub cap_node : Cap → Plan → Plan-F Plan
-cap_node (Sorts keys) p = Plan-F.Sort p keys
-cap_node (Cuts skip fetch) p = Plan-F.Limit p skip fetch
-
--- the first one on top
-abbrev pub capped : List Cap → Plan → Plan
-capped [] p = p
-capped (c ∷ cs) p = roll-Plan (cap_node c (capped cs p))
-
--- the plan can be told, or it is limits and sorts of one that can
-abbrev pub IsToldTop : Tables → Plan → Type 0
-IsToldTop tables p = (q : Plan) × (cs : List Cap) × (capped cs q ≡ p) × (is_told tables on_exchanges q ≡ true)
+-- or it is a limit of one that can
+abbrev pub IsToldTop : Tables → ℕ → Plan → Type 0
+IsToldTop tables n p = IsTold tables n p
+    ⊎ ((q : Plan) × (skip : ℕ) × (fetch : Option ℕ) × (roll-Plan (Plan-F.Limit q skip fetch) ≡ p) × IsTold tables n q)

@@ -15,10 +15,9 @@ use Rattle.plan_props.specs.Meets as meets
 use Rattle.plan_props.specs.Meets.{Hashing, AllEqual, Equals, cells_at, Each}
 use Rattle.physical_plan.specs.declared.plan.Plan.{Plan}
 use Rattle.physical_plan.specs.declared.plan.Plan.TheOpen.{Plan-F}
-use Rattle.physical_plan.specs.declared.properties.Declared.{Declared}
 use Rattle.physical_plan.specs.NodeRows.{Holds}
 use Rattle.physical_plan.specs.Properties.{declared_of, props, left_keys, right_keys}
-use Rattle.physical_plan.specs.Planned.{group_need, spread_needs}
+use Rattle.physical_plan.specs.Planned.{group_need}
 use Rattle.scalar_exprs.specs.Groups.{same_value}
 use Rattle.scalar_exprs.specs.Truth.{is_null}
 use Rattle.logical_plan.specs.Items.{Cells, Item, rows}
@@ -32,7 +31,8 @@ use Rattle.join_parts.specs.Joining.{AreMatched}
 use Rattle.plan_props.proofs.Sound.{distribution_sound}
 use Rattle.answer_laws.specs.Parted.{part, Delivers}
 use Rattle.answer_laws.proofs.Meaning.{both_true}
-use Rattle.finished_plans.specs.Sound.{unordered, in_range, scans_fit, is_met, is_sound, on_properties, IsAsDeclared}
+use Rattle.finished_plans.proofs.Told.{met_of}
+use Rattle.finished_plans.specs.Sound.{is_met, is_sound, on_properties, IsAsDeclared}
 use Rattle.finished_plans.proofs.Held.{each_at, part_rows}
 
 -- ------------------------------------------------------------ equal keys
@@ -77,17 +77,9 @@ each_here P (r ∷ rs) h = (h r (inl refl), each_here P rs (λ s i. h s (inr i))
 
 -- ------------------------------------------------------------ needs
 
--- the order has no part in it
-pub unordered_meets : (d : Declared) (need : Distribution) → satisfies_distribution (unordered d).props need ≡ satisfies_distribution d.props need
-unfolding satisfies_distribution
-unordered_meets d need.Unspecified = refl
-unordered_meets d need.Single = refl
-unordered_meets d (need.Hash keys n) = refl
-unordered_meets d (need.JoinHash keys n) = refl
-
 module _ (h : Hashing) (hash : meets.IsHash h) (tables : Tables) (n : ℕ) where
-  pub delivered_by : (q : Plan) (d : Distribution) (xs : List (List Item)) → satisfies_distribution (props q) d ≡ true → Stands h (unordered (declared_of q)) (map rows xs) → meets.Delivers h d (map rows xs)
-  delivered_by q d xs e s = distribution_sound h hash (unordered (declared_of q)).props d (map rows xs) (unordered_meets (declared_of q) d ∙ e) s.meets
+  pub delivered_by : (q : Plan) (d : Distribution) (xs : List (List Item)) → satisfies_distribution (props q) d ≡ true → Stands h (declared_of q) (map rows xs) → meets.Delivers h d (map rows xs)
+  delivered_by q d xs e s = distribution_sound h hash (props q) d (map rows xs) e s.meets
 
   gather : (keys : List ℕ) (xs : List (List Item)) → meets.Delivers h (group_need keys n) (map rows xs) → AreApart keys (length xs) (part xs)
   gather [] xs d = sym (map_length rows xs) ∙ d
@@ -116,15 +108,13 @@ module _ (h : Hashing) (hash : meets.IsHash h) (tables : Tables) (n : ℕ) where
     gathered = λ q keys calls xs e s. (
         let z = Plan-F.FinalGroup q keys calls in
         let b = both_true (is_met tables n z) (is_sound tables n q && true) e in
-        let c = both_true (spread_needs n z) (in_range z && scans_fit tables z) b.0 in
-        gather keys xs (delivered_by q (group_need keys n) xs c.0 (s (both_true (is_sound tables n q) true b.1).0)));
+        gather keys xs (delivered_by q (group_need keys n) xs (met_of tables n z b.0).spread (s (both_true (is_sound tables n q) true b.1).0)));
     matched = λ kind p q keys rest xs ys e s t. (
         let z = Plan-F.HashJoin kind p q keys rest in
         let b = both_true (is_met tables n z) (is_sound tables n p && (is_sound tables n q && true)) e in
-        let c = both_true (spread_needs n z) (in_range z && scans_fit tables z) b.0 in
         let l = satisfies_distribution (props p) (need.JoinHash (left_keys keys) n) in
         let r = satisfies_distribution (props q) (need.JoinHash (right_keys keys) n) in
-        let d = both_true l r c.0 in
+        let d = both_true l r (met_of tables n z b.0).spread in
         let u = both_true (is_sound tables n p) (is_sound tables n q && true) b.1 in
         match keys xs ys (delivered_by p (need.JoinHash (left_keys keys) n) xs d.0 (s u.0)) (delivered_by q (need.JoinHash (right_keys keys) n) ys d.1 (t (both_true (is_sound tables n q) true u.1).0)));
   }

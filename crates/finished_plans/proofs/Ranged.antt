@@ -1,8 +1,5 @@
--- Columns in range, and rows of a width, by their tests.
-use Rattle.std.specs.Prelude.{nat_lt}
-use Rattle.std.proofs.Common.{ℕ, ◌%◌, ◌<◌, ◌≡◌, ◌==◌, inl, inr, sym, ap, ◌∙◌, subst, List, [], ◌∷◌, length, get_or, map, filter, true, ◌&&◌}
-use Rattle.std.proofs.lemmas.Bool.{ltb-true}
-use Rattle.physical_plan.specs.Joins.{Within, PairsWithin}
+-- Rows of a width, by their test, and those of a table in its files.
+use Rattle.std.proofs.Common.{ℕ, ◌%◌, ◌≡◌, ◌==◌, inl, inr, sym, ap, ◌∙◌, subst, List, [], ◌∷◌, length, get_or, map, filter, true}
 use Rattle.physical_plan.specs.NodeRows.{Holds}
 use Rattle.physical_plan.specs.Layout.{numbers}
 use Rattle.logical_plan.specs.Items.{Cells, Item, rows, concat}
@@ -10,22 +7,8 @@ use Rattle.task_trees.specs.Trees.{in_files}
 use Rattle.plan_tasks.specs.Trees.{dealt_files}
 use Rattle.answer_laws.proofs.Weights.{items_fuse}
 use Rattle.answer_laws.proofs.Meaning.{both_true, equal_is}
-use Rattle.finished_plans.specs.Sound.{are_below, pairs_below, are_wide}
+use Rattle.finished_plans.specs.Sound.{are_wide}
 use Rattle.finished_plans.proofs.Held.{in_all, apart}
-
-pub lower : (a b : ℕ) → nat_lt a b ≡ true → a < b
-lower a b h = ltb-true a b h
-
-pub within : (w : ℕ) (cs : List ℕ) → are_below w cs ≡ true → Within w cs
-within w [] h = tt
-within w (c ∷ cs) h = (let b = both_true (nat_lt c w) (are_below w cs) h in (lower c w b.0, within w cs b.1))
-
-pub pairs_within : (w : ℕ) (ps : List (ℕ × ℕ)) → pairs_below w ps ≡ true → PairsWithin w ps
-pairs_within w [] h = tt
-pairs_within w (p ∷ ps) h =
-    let b = both_true (nat_lt p.0 w) (nat_lt p.1 w && pairs_below w ps) h in
-    let c = both_true (nat_lt p.1 w) (pairs_below w ps) b.1 in
-    (lower p.0 w b.0, lower p.1 w c.0, pairs_within w ps c.1)
 
 pub wide_row : (w : ℕ) (rs : List Cells) → are_wide w rs ≡ true → (r : Cells) → Holds rs r → length r ≡ w
 wide_row w [] h r i = absurd i

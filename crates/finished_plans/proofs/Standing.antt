@@ -1,10 +1,12 @@
--- What nodes declare, but for the order, stands of what their partitions would give.
+-- What nodes declare stands of what their partitions would give.
+use Rattle.std.specs.Prelude.{IsSorted}
 use Rattle.std.specs.List.{filter_map}
-use Rattle.std.proofs.Common.{ℕ, zero, suc, ◌+◌, ◌≡◌, ◌==◌, inl, inr, refl, sym, ap, ◌∙◌, subst, List, [], ◌∷◌, ◌++◌, length, get_or, map, sum, Bool, true, false, ◌&&◌, Option, Ok, Err, cond, ◌≤◌, arith}
+use Rattle.std.proofs.Common.{ℕ, zero, suc, ◌+◌, ◌%◌, ◌≡◌, ◌==◌, inl, inr, refl, sym, ap, ◌∙◌, subst, List, [], ◌∷◌, ◌++◌, length, get_or, map, sum, Bool, true, false, ◌&&◌, Option, Ok, Err, cond, arith}
 use Rattle.std.proofs.lemmas.Bool.{false≢true, cases_lt}
 use Rattle.std.proofs.lemmas.List.{append-nil}
 use Rattle.std.proofs.lemmas.List.Sums.{list_all-from_AllPass}
 use Rattle.std.specs.List.{AllPass, list_all, sum_by, flat_map}
+use Rattle.dfx_value.specs.Rows.{row_cmp}
 use Rattle.dfx_value.specs.declared.kind.Kind.{Kind}
 use Rattle.dfx_value.specs.declared.op.JoinKind.{JoinKind}
 use Rattle.dfx_value.specs.declared.op.AggCall.{AggCall}
@@ -15,17 +17,16 @@ use Rattle.plan_props.specs.declared.properties.Partitioning.TheVariants as part
 use Rattle.plan_props.specs.declared.properties.Distribution.TheVariants as need
 use Rattle.plan_props.specs.Satisfies.{partition_count, satisfies_distribution}
 use Rattle.plan_props.specs.Meets as meets
-use Rattle.plan_props.specs.Meets.{Row, Hashing, Hashed, cells_at}
+use Rattle.plan_props.specs.Meets.{Row, Hashing, Hashed, InOrder, AllInOrder, cells_at}
 use Rattle.physical_plan.specs.declared.plan.Plan.{Plan}
 use Rattle.physical_plan.specs.declared.plan.Plan.TheOpen.{Plan-F}
 use Rattle.physical_plan.specs.declared.plan.Plan.TheViews.{roll-Plan}
 use Rattle.physical_plan.specs.declared.plan.Plan.TheFolds.{fold-roll-Plan, map-Plan}
 use Rattle.physical_plan.specs.declared.properties.Declared.{Declared}
-use Rattle.physical_plan.specs.Facts.{fact_of}
 use Rattle.physical_plan.specs.Layout.{numbers}
-use Rattle.physical_plan.specs.NodeRows.{Holds, by_row, kept, values, united_parts}
-use Rattle.physical_plan.specs.Properties.{state_width, first_width, counts, scattered, partitions, declared, declared_of, or_single, props, left_keys, right_keys}
-use Rattle.physical_plan.specs.Planned.{node_holds, all_true, everywhere, group_need, spread_needs}
+use Rattle.physical_plan.specs.NodeRows.{Holds, Dealt, by_row, kept, values, united_parts}
+use Rattle.physical_plan.specs.Properties.{repartitioned, state_width, first_width, counts, scattered, partitions, declared, declared_of, or_single, props, left_keys, right_keys}
+use Rattle.physical_plan.specs.Planned.{node_holds, all_true, everywhere, group_need}
 use Rattle.logical_plan.specs.Items.{Cells, Item, rows, concat, filter_items, project_items}
 use Rattle.logical_plan.specs.Joins.{joined}
 use Rattle.logical_plan.specs.Body.{Tables}
@@ -37,23 +38,29 @@ use Rattle.plan_tasks.specs.Trees.{Doing, dealt_files}
 use Rattle.plan_tasks.proofs.Branches.{numbers_length, map_length}
 use Rattle.node_laws.specs.Nodes.{Stands, IsWide, Input, JoinRow, AllStand, HaveWidth, rows_of}
 use Rattle.node_laws.specs.Rows.{GroupRow, AnswerRow, AllDiffer}
+use Rattle.node_laws.proofs.Weavings.{gathered_meets}
 use Rattle.node_laws.proofs.Wholes.{node_stands}
+use Rattle.node_laws.proofs.Tested.{tested}
+use Rattle.plan_props.proofs.Sound.{order_sound}
+use Rattle.sorted_answers.proofs.Rows.{order_from_sorted, sorted_from_order}
 use Rattle.answer_laws.specs.Gives.{Answers, AllAnswer, AllJoin}
-use Rattle.answer_laws.specs.Kept.{AllHold, AreSplit, IsKept}
+use Rattle.answer_laws.specs.Kept.{AllHold, AreSplit, KeepsOrder, IsKept}
 use Rattle.answer_laws.specs.Meant.{Grouping, grouping, Phases, meaning_of, meant, finishes, files_of, is_whole, all_told, told_node, is_told}
 use Rattle.answer_laws.specs.Answering.{IsInput, IsAnswering}
+use Rattle.answer_laws.specs.Ordered.{IsOrdering}
 use Rattle.answer_laws.proofs.Meaning.{both_true, equal_is}
 use Rattle.answer_laws.proofs.Weights.{together_all}
-use Rattle.finished_plans.specs.Sound.{unordered, in_range, scans_fit, is_met, is_sound, on_properties, anyhow, IsAsDeclared, width, have_width, are_below, pairs_below}
+use Rattle.node_laws.specs.Tests.{width, have_width}
+use Rattle.finished_plans.specs.Sound.{is_met, is_sound, on_properties, anyhow, IsAsDeclared}
 use Rattle.finished_plans.specs.Rows.{IsChannelOf, AreGroups}
 use Rattle.finished_plans.proofs.Everywhere.{one_below, two_below, seconds, firsts}
-use Rattle.finished_plans.proofs.Held.{each_by, each_at, part_rows, from_bag, bag_holds, apart, in_front, in_back}
-use Rattle.finished_plans.proofs.Moved.{moved}
-use Rattle.finished_plans.proofs.Told.{sound, sound_node, told}
+use Rattle.finished_plans.proofs.Held.{each_by, each_at, part_rows, bag_holds, apart, in_front, in_back}
+use Rattle.finished_plans.proofs.Dealt.{rows_long, past, bag_from, one_wide, dealt}
+use Rattle.finished_plans.proofs.Told.{met_of, sound, sound_node, told}
 use Rattle.finished_plans.proofs.Delivered.{delivered_by}
 use Rattle.finished_plans.proofs.JoinRows.{join_row}
 use Rattle.finished_plans.proofs.Widths.{wide, finished_by}
-use Rattle.finished_plans.proofs.Ranged.{within, pairs_within, wide_row, dealt_row}
+use Rattle.finished_plans.proofs.Ranged.{wide_row, dealt_row}
 use Rattle.finished_plans.proofs.Rowwise.{filter_rows, project_rows}
 use Rattle.finished_plans.proofs.Counted.{single_count}
 
@@ -75,9 +82,6 @@ answers_long op [] (y ∷ ys) h = absurd h
 answers_long op (x ∷ xs) [] h = absurd h
 answers_long op (x ∷ xs) (y ∷ ys) h = ap suc (answers_long op xs ys h.1)
 
-pub rows_long : (xs : List (List Item)) → length (map rows xs) ≡ length xs
-rows_long xs = map_length rows xs
-
 -- what holds of each partition's answer, over its input
 pub answered : (op : ℕ → Op) (P : List Item → List Item → Type 0) → P [] [] → ((c : ℕ) (t : Told) (ins : ℕ → List Item) → IsSplit t → ReadsAll t ins → P (ins 0) ((op c).whole t ins))
     → (xs ys : List (List Item)) → AllAnswer op xs ys → (j : ℕ) → P (get_or xs j []) (get_or ys j [])
@@ -95,7 +99,7 @@ at_number number c xs h = by xs (list_all-from_AllPass (is_at number c) xs h)
     by (Ok r ∷ xs) e = (let b = both_true (number r == c) (list_all (is_at number c) xs) e in (equal_is (number r) c b.0, by xs b.1))
     by (Err g ∷ xs) e = by xs e
 
-module _ (f : Doing) (tables : Tables) (n : ℕ) (h : Hashing) (channels : IsChannelOf h f) (phases : Phases) (answering : IsAnswering f tables (on_properties tables n) phases) where
+module _ (f : Doing) (tables : Tables) (n : ℕ) (h : Hashing) (channels : IsChannelOf h f) (phases : Phases) (answering : IsAnswering f tables (on_properties tables n) phases) (ordering : IsOrdering f) where
   abbrev pub Holds-of : Plan → List (List Item) → Type 0
   Holds-of = IsAsDeclared h tables n
 
@@ -103,28 +107,24 @@ module _ (f : Doing) (tables : Tables) (n : ℕ) (h : Hashing) (channels : IsCha
   here = is_met tables n
 
   abbrev input : Plan → List (List Item) → Input
-  input q xs = (unordered (declared_of q), map rows xs)
+  input q xs = (declared_of q, map rows xs)
 
   -- a sound node
   pub level : (z : Plan-F Plan) (ys : List (List Item))
       → (node_holds here (map-Plan Plan (Plan × Bool) (λ p. (p, everywhere here p)) z) ≡ true → told_node tables anyhow (map-Plan Plan (Plan × Bool) (λ p. (p, is_told tables anyhow p)) z) ≡ true
-      → Stands h (unordered (declared (map-Plan Plan Declared declared_of z))) (map rows ys))
+      → Stands h (declared (map-Plan Plan Declared declared_of z)) (map rows ys))
       → Holds-of (roll-Plan z) ys
   unfolding declared_of
   level z ys s e = (let b = sound_node tables n z e in let d = fold-roll-Plan Declared declared z in rw d (s b.0 b.1))
 
-  pub ranged : (z : Plan-F Plan) → here z ≡ true → in_range z ≡ true
-  ranged z e = (both_true (in_range z) (scans_fit tables z) (both_true (spread_needs n z) (in_range z && scans_fit tables z) e).1).0
-
-  pub whole_input : (b : Bool) (q : Plan) → b && (everywhere here q && true) ≡ true → is_told tables anyhow q && is_whole (meaning_of tables q) ≡ true → is_sound tables n q ≡ true
+  whole_input : (b : Bool) (q : Plan) → b && (everywhere here q && true) ≡ true → is_told tables anyhow q && is_whole (meaning_of tables q) ≡ true → is_sound tables n q ≡ true
   whole_input b q e t = sound tables n q (one_below b (everywhere here q) e).1 (both_true (is_told tables anyhow q) (is_whole (meaning_of tables q)) t).0
 
   pub filters : (q : Plan) (test : Expr) (xs ys : List (List Item)) → Holds-of q xs → AllAnswer (f.operator (Plan-F.Filter q test) 1) xs ys → Holds-of (roll-Plan (Plan-F.Filter q test)) ys
   filters q test xs ys i a = level (Plan-F.Filter q test) ys (λ e t. (
       let z = Plan-F.Filter q test in
-      let w = width q in
-      let r = both_true (pairs_below w (fact_of test).same) (are_below w (fact_of test).constants) (ranged z (one_below (here z) (everywhere here q) e).0) in
-      node_stands h n (Plan-F.Filter (input q xs) test) (map rows ys) (i (whole_input (here z) q e t), tt) (pairs_within w (fact_of test).same r.0, within w (fact_of test).constants r.1)
+      let m = met_of tables n z (one_below (here z) (everywhere here q) e).0 in
+      node_stands h n (Plan-F.Filter (input q xs) test) (map rows ys) (i (whole_input (here z) q e t), tt) (tested (Plan-F.Filter (q, map rows xs) test) m.ranges)
       (by_rows (kept test) (filter_items test) (filter_rows test) (f.operator z 1) (answering.filter q test) xs ys a)))
 
   pub projects : (q : Plan) (items : List Expr) (xs ys : List (List Item)) → Holds-of q xs → AllAnswer (f.operator (Plan-F.Project q items) 1) xs ys → Holds-of (roll-Plan (Plan-F.Project q items)) ys
@@ -138,7 +138,7 @@ module _ (f : Doing) (tables : Tables) (n : ℕ) (h : Hashing) (channels : IsCha
   pub scans : (table : ℕ) (kinds : List Kind) (files partitions source : ℕ) → Holds-of (roll-Plan (Plan-F.Scan table kinds files partitions)) (map (λ (i : ℕ). in_files (dealt_files (f.items table) source files partitions i)) (numbers partitions))
   scans table kinds files partitions source = level (Plan-F.Scan table kinds files partitions) ys (λ e t. (
       let z = Plan-F.Scan table kinds files partitions in
-      let fit = (both_true (in_range z) (scans_fit tables z) (both_true (here z) true e).0).1 in
+      let fit = (met_of tables n z (both_true (here z) true e).0).fits in
       node_stands h n (Plan-F.Scan table kinds files partitions) (map rows ys) tt tt (
         rows_long ys ∙ map_length G (numbers partitions) ∙ numbers_length 0 partitions,
         λ j. each_by (IsWide (length kinds)) (get_or (map rows ys) j []) (λ r i. wide_row (length kinds) (rows (concat (files_of tables table))) fit r
@@ -156,20 +156,7 @@ module _ (f : Doing) (tables : Tables) (n : ℕ) (h : Hashing) (channels : IsCha
       some_file (k ∷ is) zero r i = dealt_row (f.items table) (files_of tables table) (answering.items table) source files partitions k r i
       some_file (k ∷ is) (suc j) r i = some_file is j r i
 
-  -- ------------------------------------------------------------ bags
-
-  pub coalesces : (q : Plan) (xs : List (List Item)) (y : List Item) → Holds-of q xs → SameBag y (concat xs) → Holds-of (roll-Plan (Plan-F.Coalesce q)) (y ∷ [])
-  coalesces q xs y i b = level (Plan-F.Coalesce q) (y ∷ []) (λ e t. (
-      let s = i (sound tables n q (one_below (here (Plan-F.Coalesce q)) (everywhere here q) e).1 t) in
-      let c : SameBag (concat (y ∷ [])) (concat xs) = subst (λ zs. SameBag zs (concat xs)) (sym (append-nil y)) b in
-      moved h (declared_of q) parting.Single (map rows xs) (map rows (y ∷ [])) s (from_bag xs (y ∷ []) c) refl (λ j. each_by (Hashed h parting.Single j) (get_or (map rows (y ∷ [])) j []) (λ r k. tt))))
-
-  pub merges : (q : Plan) (keys : List SortKey) (xs : List (List Item)) (y : List Item) → Holds-of q xs → Answers (f.operator (Plan-F.Merge q keys) (length xs)) xs y → Holds-of (roll-Plan (Plan-F.Merge q keys)) (y ∷ [])
-  merges q keys xs y i a = level (Plan-F.Merge q keys) (y ∷ []) (λ e t. (
-      let s = i (sound tables n q (one_below (here (Plan-F.Merge q keys)) (everywhere here q) e).1 t) in
-      let b : SameBag y (concat xs) = (λ w. ap (sum_by w) a.gives ∙ answering.merge q keys (length xs) a.consumer a.told a.taken a.split a.reads w ∙ together_all xs a.taken a.are w) in
-      let c : SameBag (concat (y ∷ [])) (concat xs) = subst (λ zs. SameBag zs (concat xs)) (sym (append-nil y)) b in
-      moved h (declared_of q) parting.Single (map rows xs) (map rows (y ∷ [])) s (from_bag xs (y ∷ []) c) refl (λ j. each_by (Hashed h parting.Single j) (get_or (map rows (y ∷ [])) j []) (λ r k. tt))))
+  -- ------------------------------------------------------------ bags, and orders
 
   sorted_rows : (q : Plan) (keys : List SortKey) (xs ys : List (List Item)) → AllAnswer (f.operator (Plan-F.Sort q keys) 1) xs ys → (j : ℕ) (r : Row) → Holds (get_or (map rows ys) j []) r → Holds (get_or (map rows xs) j []) r
   sorted_rows q keys xs ys a j r i =
@@ -179,41 +166,79 @@ module _ (f : Doing) (tables : Tables) (n : ℕ) (h : Hashing) (channels : IsCha
 
   pub sorts : (q : Plan) (keys : List SortKey) (xs ys : List (List Item)) → Holds-of q xs → AllAnswer (f.operator (Plan-F.Sort q keys) 1) xs ys → Holds-of (roll-Plan (Plan-F.Sort q keys)) ys
   sorts q keys xs ys i a = level (Plan-F.Sort q keys) ys (λ e t. (
+      let op = f.operator (Plan-F.Sort q keys) 1 in
       let s = i (sound tables n q (one_below (here (Plan-F.Sort q keys)) (everywhere here q) e).1 t) in
-      let to = (declared_of q).props.partitioning in
-      moved h (declared_of q) to (map rows xs) (map rows ys) s (λ j r k. (j, sorted_rows q keys xs ys a j r k))
-      (rows_long ys ∙ answers_long (f.operator (Plan-F.Sort q keys) 1) xs ys a ∙ sym (rows_long xs) ∙ s.meets.count)
-      (λ j. each_by (Hashed h to j) (get_or (map rows ys) j []) (λ r k. each_at (Hashed h to j) (get_or (map rows xs) j []) (s.meets.hashed j) r (sorted_rows q keys xs ys a j r k)))))
+      node_stands h n (Plan-F.Sort (input q xs) keys) (map rows ys) (s, tt) tt (record {
+        count = rows_long ys ∙ answers_long op xs ys a ∙ sym (rows_long xs);
+        from = λ j. each_by (Holds (get_or (map rows xs) j [])) (get_or (map rows ys) j []) (sorted_rows q keys xs ys a j);
+        ordered = λ j. subst (InOrder keys) (sym (part_rows ys j))
+            (answered op (λ x y. InOrder keys (rows y)) tt (λ c t2 ins s d. order_from_sorted keys (rows ((op c).whole t2 ins)) (ordering.sort q keys c t2 ins s d)) xs ys a j);
+      })))
+
+  pub merges : (q : Plan) (keys : List SortKey) (xs : List (List Item)) (y : List Item) → Holds-of q xs → Answers (f.operator (Plan-F.Merge q keys) (length xs)) xs y → Holds-of (roll-Plan (Plan-F.Merge q keys)) (y ∷ [])
+  merges q keys xs y i a = level (Plan-F.Merge q keys) (y ∷ []) (λ e t. (
+      let b = one_below (here (Plan-F.Merge q keys)) (everywhere here q) e in
+      let s = i (sound tables n q b.1 t) in
+      let c : SameBag y (concat xs) = (λ w. ap (sum_by w) a.gives ∙ answering.merge q keys (length xs) a.consumer a.told a.taken a.split a.reads w ∙ together_all xs a.taken a.are w) in
+      let from = bag_from xs y c in
+      let k : AllInOrder keys (map rows xs) = order_sound h (props q) keys (map rows xs) (met_of tables n (Plan-F.Merge q keys) b.0).order s.meets in
+      let o : InOrder keys (rows y) = order_from_sorted keys (rows y) (subst (λ zs. IsSorted (row_cmp keys) (rows zs)) (sym a.gives)
+      (ordering.merge q keys (length xs) a.consumer a.told a.taken a.split a.reads (λ j l. sorted_from_order keys (rows (a.taken j))
+      (subst (λ zs. InOrder keys (rows zs)) (sym (a.are j)) (subst (InOrder keys) (part_rows xs j) (k j)))))) in
+      record {
+        meets = gathered_meets h keys (declared_of q) (map rows xs) (rows y) from o s.meets;
+        wide = one_wide (declared_of q).width (map rows xs) (rows y) s.wide from;
+        pairs = s.pairs;
+        constants = s.constants;
+      }))
+
+  pub coalesces : (q : Plan) (xs : List (List Item)) (y : List Item) → Holds-of q xs → SameBag y (concat xs) → KeepsOrder xs (y ∷ []) → Holds-of (roll-Plan (Plan-F.Coalesce q)) (y ∷ [])
+  coalesces q xs y i b o = level (Plan-F.Coalesce q) (y ∷ []) (λ e t. (
+      let s = i (sound tables n q (one_below (here (Plan-F.Coalesce q)) (everywhere here q) e).1 t) in
+      let c : SameBag (concat (y ∷ [])) (concat xs) = subst (λ zs. SameBag zs (concat xs)) (sym (append-nil y)) b in
+      node_stands h n (Plan-F.Coalesce (input q xs)) (map rows (y ∷ [])) (s, tt) tt (dealt xs (y ∷ []) c o)))
 
   -- rows at their numbers, where an exchange goes by a hash
-  past : (ys : List (List Item)) (j : ℕ) → length ys ≤ j → get_or ys j [] ≡ []
-  past [] j l = refl
-  past (y ∷ ys) zero l = absurd (omega arith)
-  past (y ∷ ys) (suc j) l = past ys j (omega arith)
-
-  hashed_to : (to : Partitioning) (ys : List (List Item)) → length ys ≡ partition_count to → AreSplit f to ys → (j : ℕ) → meets.Each (Hashed h to j) (rows (get_or ys j []))
-  hashed_to parting.Single ys l s j = each_by (Hashed h parting.Single j) (rows (get_or ys j [])) (λ r k. tt)
-  hashed_to (parting.RoundRobin m) ys l s j = each_by (Hashed h (parting.RoundRobin m) j) (rows (get_or ys j [])) (λ r k. tt)
-  hashed_to (parting.Unknown m) ys l s j = each_by (Hashed h (parting.Unknown m) j) (rows (get_or ys j [])) (λ r k. tt)
-  hashed_to (parting.Hash cs m) ys l s j = elim (cases_lt j m) [
-    | inl b ↦ each_by (Hashed h (parting.Hash cs m) j) (rows (get_or ys j [])) (λ r k.
+  hashed_to : (cs : List ℕ) (m : ℕ) (ys : List (List Item)) → length ys ≡ m → AreSplit f (parting.Hash cs m) ys → (j : ℕ) → meets.Each (λ r. h (cells_at cs r) % m ≡ j) (rows (get_or ys j []))
+  hashed_to cs m ys l s j = elim (cases_lt j m) [
+    | inl b ↦ each_by (λ r. h (cells_at cs r) % m ≡ j) (rows (get_or ys j [])) (λ r k.
         sym (channels.channel cs m r) ∙ each_at (λ r. f.channel cs m r ≡ j) (rows (get_or ys j [])) (at_number (f.channel cs m) j (get_or ys j []) (s cs m refl j b)) r k)
-    | inr b ↦ subst (λ xs. meets.Each (Hashed h (parting.Hash cs m) j) (rows xs)) (sym (past ys j (let e : length ys ≡ m = l in omega arith))) tt
+    | inr b ↦ subst (λ xs. meets.Each (λ r. h (cells_at cs r) % m ≡ j) (rows xs)) (sym (past ys j (omega (arith, l, b)))) tt
   ]
 
-  single_or : (to : Partitioning) (j : ℕ) (rs : List Row) → meets.Each (Hashed h to j) rs → meets.Each (Hashed h (or_single to) j) rs
-  single_or to j rs k = by (partition_count to == 1)
+  -- an exchange declares as one in turn does, where it goes by no hash
+  unhashed : (m : ℕ) (d : Declared) (outs : List (List Row)) → Stands h (repartitioned (parting.RoundRobin m) d) outs → Stands h (repartitioned (parting.Unknown m) d) outs
+  unhashed m d outs s = record {
+    meets = record {
+      count = s.meets.count ∙ single_count (parting.RoundRobin m) ∙ sym (single_count (parting.Unknown m));
+      hashed = λ j. each_by (Hashed h (or_single (parting.Unknown m)) j) (get_or outs j []) (λ r k. free (m == 1) j r);
+      ordered = s.meets.ordered;
+      same = s.meets.same;
+      constant = s.meets.constant;
+    };
+    wide = s.wide;
+    pairs = s.pairs;
+    constants = s.constants;
+  }
     where
-      by : (b : Bool) → meets.Each (Hashed h (cond b parting.Single to) j) rs
-      by true = each_by (Hashed h parting.Single j) rs (λ r i. tt)
-      by false = k
+      free : (b : Bool) (j : ℕ) (r : Row) → Hashed h (cond b parting.Single (parting.Unknown m)) j r
+      free true j r = tt
+      free false j r = tt
 
-  pub repartitions : (q : Plan) (to : Partitioning) (xs ys : List (List Item)) → Holds-of q xs → length ys ≡ partition_count to → SameBag (concat ys) (concat xs) → AreSplit f to ys → Holds-of (roll-Plan (Plan-F.Repartition q to)) ys
-  repartitions q to xs ys i l b split = level (Plan-F.Repartition q to) ys (λ e t. (
-      let s = i (sound tables n q (one_below (here (Plan-F.Repartition q to)) (everywhere here q) e).1 t) in
-      moved h (declared_of q) (or_single to) (map rows xs) (map rows ys) s (from_bag xs ys b)
-      (rows_long ys ∙ l ∙ sym (single_count to))
-      (λ j. single_or to j (get_or (map rows ys) j []) (subst (λ rs. meets.Each (Hashed h to j) rs) (sym (part_rows ys j)) (hashed_to to ys l split j)))))
+  exchanged : (q : Plan) (to : Partitioning) (xs ys : List (List Item)) → length ys ≡ partition_count to → SameBag (concat ys) (concat xs) → AreSplit f to ys → KeepsOrder xs ys
+      → Stands h (declared_of q) (map rows xs) → Stands h (repartitioned to (declared_of q)) (map rows ys)
+  exchanged q (parting.Hash cs m) xs ys l b split o s = node_stands h n (Plan-F.Repartition (input q xs) (parting.Hash cs m)) (map rows ys) (s, tt) tt (record {
+    dealt = subst (λ (k : ℕ). Dealt k (map rows xs) (map rows ys)) l (dealt xs ys b o);
+    place = λ j. subst (meets.Each (λ r. h (cells_at cs r) % m ≡ j)) (sym (part_rows ys j)) (hashed_to cs m ys l split j);
+  })
+  exchanged q (parting.RoundRobin m) xs ys l b split o s = node_stands h n (Plan-F.Repartition (input q xs) (parting.RoundRobin m)) (map rows ys) (s, tt) tt (subst (λ (k : ℕ). Dealt k (map rows xs) (map rows ys)) l (dealt xs ys b o))
+  exchanged q parting.Single xs ys l b split o s = node_stands h n (Plan-F.Repartition (input q xs) (parting.RoundRobin 1)) (map rows ys) (s, tt) tt (subst (λ (k : ℕ). Dealt k (map rows xs) (map rows ys)) l (dealt xs ys b o))
+  exchanged q (parting.Unknown m) xs ys l b split o s = unhashed m (declared_of q) (map rows ys)
+      (node_stands h n (Plan-F.Repartition (input q xs) (parting.RoundRobin m)) (map rows ys) (s, tt) tt (subst (λ (k : ℕ). Dealt k (map rows xs) (map rows ys)) l (dealt xs ys b o)))
+
+  pub repartitions : (q : Plan) (to : Partitioning) (xs ys : List (List Item)) → Holds-of q xs → length ys ≡ partition_count to → SameBag (concat ys) (concat xs) → AreSplit f to ys → KeepsOrder xs ys → Holds-of (roll-Plan (Plan-F.Repartition q to)) ys
+  repartitions q to xs ys i l b split o = level (Plan-F.Repartition q to) ys (λ e t.
+      exchanged q to xs ys l b split o (i (sound tables n q (one_below (here (Plan-F.Repartition q to)) (everywhere here q) e).1 t)))
 
   -- ------------------------------------------------------------ joins
 
@@ -257,10 +282,11 @@ module _ (f : Doing) (tables : Tables) (n : ℕ) (h : Hashing) (channels : IsCha
       let m = two_below (here z) (everywhere here p) (everywhere here q) e in
       let sp = sound tables n p m.1 c.0 in
       let sq = sound tables n q m.2 d.0 in
-      let r = both_true (are_below (width p) (left_keys keys)) (are_below (width q) (right_keys keys)) (ranged z m.0) in
+      let met = met_of tables n z m.0 in
+      let r = tested (Plan-F.HashJoin kind (p, map rows xs) (q, map rows ys) keys rest) met.ranges in
       let l = satisfies_distribution (props p) (need.JoinHash (left_keys keys) n) in
       let k = satisfies_distribution (props q) (need.JoinHash (right_keys keys) n) in
-      let o = both_true l k (both_true (spread_needs n z) (in_range z && scans_fit tables z) m.0).0 in
+      let o = both_true l k met.spread in
       let left = delivered_by h channels.hash tables n p (need.JoinHash (left_keys keys) n) xs o.0 (i sp) in
       let right = delivered_by h channels.hash tables n q (need.JoinHash (right_keys keys) n) ys o.1 (j sq) in
       let even : length xs ≡ length ys = sym (rows_long xs) ∙ left.count ∙ sym right.count ∙ rows_long ys in
@@ -268,7 +294,7 @@ module _ (f : Doing) (tables : Tables) (n : ℕ) (h : Hashing) (channels : IsCha
       let x : IsInput tables (on_properties tables n) q = record { told = told tables n q sq; items = d.1 } in
       let op = f.operator z 2 in
       node_stands h n (Plan-F.HashJoin kind (input p xs) (input q ys) keys rest) (map rows zs) (i sp, (j sq, tt))
-      (left, right, within (width p) (left_keys keys) r.0, within (width q) (right_keys keys) r.1)
+      (left, right, r.0, r.1)
       (record {
         count = rows_long zs ∙ joins_long op xs ys zs even a ∙ sym (rows_long xs);
         rows = λ at. each_by (JoinRow kind keys (width p) (width q) (get_or (map rows xs) at []) (get_or (map rows ys) at [])) (get_or (map rows zs) at []) (λ s y. (
@@ -328,7 +354,7 @@ module _ (f : Doing) (tables : Tables) (n : ℕ) (h : Hashing) (channels : IsCha
       let b = both_true (here (Plan-F.UnionAll (map (λ (p : Plan × Bool). p.0) zs))) (all_true (map (λ (p : Plan × Bool). p.1) zs)) e in
       let c : all_true (map (everywhere here) ps) ≡ true = sym (ap all_true (seconds here ps)) ∙ b.1 in
       let d : here (Plan-F.UnionAll ps) ≡ true = sym (ap (λ (qs : List Plan). here (Plan-F.UnionAll qs)) (firsts here ps)) ∙ b.0 in
-      let w : HaveWidth (first_width (map declared_of ps)) (zipped ps xs) = zipped_widths (first_width (map declared_of ps)) ps xs (ranged (Plan-F.UnionAll ps) d) in
+      let w : HaveWidth (first_width (map declared_of ps)) (zipped ps xs) = zipped_widths (first_width (map declared_of ps)) ps xs (met_of tables n (Plan-F.UnionAll ps) d).ranges in
       let s = node_stands h n (Plan-F.UnionAll (zipped ps xs)) (map rows (concat xs)) (all_stand ps xs k c t) (subst (λ (m : ℕ). HaveWidth m (zipped ps xs)) (sym (zipped_first ps xs k)) w) (zipped_rows ps xs k) in
       subst (λ (m : ℕ). Stands h (scattered (first_width (map declared_of ps)) m) (map rows (concat xs))) (ap sum (zipped_counts ps xs k))
       (subst (λ (m : ℕ). Stands h (scattered m (sum (counts (map (λ (i : Input). i.0) (zipped ps xs))))) (map rows (concat xs))) (zipped_first ps xs k) s)))
@@ -388,7 +414,7 @@ module _ (f : Doing) (tables : Tables) (n : ℕ) (h : Hashing) (channels : IsCha
         let d = one_below (here z) (everywhere here q) e in
         let sq = sound tables n q d.1 b.0 in
         let stand = i sq in
-        let o = (both_true (spread_needs n z) (in_range z && scans_fit tables z) d.0).0 in
+        let o = (met_of tables n z d.0).spread in
         let c = (subst (λ ks. (x y : List Item) → y ≡ phases.second g.0 x → SecondRows ks calls x y) (sym g.2) (subst (λ cs. (x y : List Item) → y ≡ phases.second g.0 x → SecondRows (numbers (length g.0.columns)) cs x y) (sym g.3)
         (λ x y k. subst (λ zs. SecondRows (numbers (length g.0.columns)) g.0.calls x zs) (sym k) (record { from = groups.second g.0 x; once = groups.once g.0 x; wide = groups.second_wide g.0 x })))) in
         let at : (j : ℕ) → SecondRows keys calls (get_or xs j []) (get_or ys j []) = answered op (SecondRows keys calls) (record { from = tt; once = tt; wide = tt })

@@ -1,5 +1,4 @@
 pub mod Sound
 pub mod Rows
 pub mod Known
-pub mod Ordered
 pub mod Engine

@@ -9,7 +9,7 @@ ghost use Rattle.core_frame.specs.Shape.{task_at, names, has, is_group, width};
 ghost use Rattle.task_trees.specs.Trees.{File, Tree, Nothing, HasInlet, HasConsumer};
 ghost use Rattle.task_trees.specs.Runs.{IsStart, the_task};
 ghost use Rattle.whole_contents.specs.Bags.{SameBag, sum_below};
-ghost use Rattle.whole_contents.specs.Senders.{AreSenders, IsOnlySender};
+ghost use Rattle.whole_contents.specs.Senders.{AreSenders, IsOnlySender, IsLoneSender};
 ghost use Rattle.plan_tasks.specs.Trees.{Doing, Growing, grow, leaf, count_stages, stages_in, count_sources, sources_in, partitions_of, At, tree_of};
 ghost use Rattle.plan_tasks.specs.Branches.{seed_at, width_at, branch, IsEven};
 ghost use Rattle.plan_tasks.specs.Tops.{Top, Topping, ToOwn, top_node, tops, all_tops, width_by};
@@ -79,12 +79,15 @@ pub fn stages_law()
 {}
 
 /// Each task that sends does so in one of the known ways (`senders`), where hashes give channels and each exchange has one. A partition of
-/// a merging stage is the only sender of its channel (`own`).
+/// a merging stage is the only sender of its channel (`own`). Where a stage is one partition, it alone sends to its group, in order (`lone`).
 pub fn senders_law()
     ensures senders { (f : Doing) → AreOperators f → IsHashing f → (p : Plan) → HasChannels p → AreSenders (shape p) (tasks_of f p) (deal_of f p) }
     ensures own { (f : Doing) → AreOperators f → (p : Plan) (before after : List Top) (t : Top) → all_tops p ≡ before ++ t ∷ after
         → 0 < t.stage → t.way ≡ ToOwn → (i : ℕ) → i < length (seeds_of f t)
         → IsOnlySender (shape p) (tasks_of f p) (deal_of f p) (tasks_before f before + i) t.stage i }
+    ensures lone { (f : Doing) → AreOperators f → (p : Plan) (before after : List Top) (t : Top) → all_tops p ≡ before ++ t ∷ after
+        → 0 < t.stage → length (seeds_of f t) ≡ 1
+        → IsLoneSender (shape p) (tasks_of f p) (deal_of f p) (tasks_before f before) t.stage }
 {}
 
 /// The files of a plan's scans have the sources from 0 on, in plan order (`numbered`), and each has the items of its table's file (`named`). Where
