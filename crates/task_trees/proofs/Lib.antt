@@ -12,3 +12,4 @@ pub mod Worked
 pub mod Kept
 pub mod Batches
 pub mod Subtrees
+pub mod Held
