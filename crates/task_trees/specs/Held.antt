@@ -21,7 +21,9 @@ IsApart t = FormApart (form t)
 
 -- each operator holds what is counted as held under its consumer, where it has one
 abbrev pub IsHolding : (ℕ → ℕ) → Tree → Type 0
-IsHolding held (Node op t d inputs) = ((c : ℕ) → op.consumer ≡ Some c → d.held ≡ held c) × ((i : ℕ) → IsHolding held (inputs i))
+IsHolding held (Node op t d inputs) =
+    ((c : ℕ) → op.consumer ≡ Some c → d.held ≡ held c)
+    × ((i : ℕ) → IsHolding held (inputs i))
 IsHolding held _ = Unit {0}
 
 -- what is given back is all that is held
@@ -38,7 +40,9 @@ abbrev pub KeepsHeld : Past (List Cells) → Poll → Type 0
 KeepsHeld past (Gives rows rest) = IsHolding (kept_in past) rest
 KeepsHeld past Ends = Unit {0}
 KeepsHeld past (Moves rest) = IsHolding (kept_in past) rest
-KeepsHeld past (Asks need after) = FreesAll (kept_in past) need × ((x : Reply (List Cells)) → IsHolding (kept_in (past ++ (need, x) ∷ [])) (after x))
+KeepsHeld past (Asks need after) =
+    FreesAll (kept_in past) need
+    × ((x : Reply (List Cells)) → IsHolding (kept_in (past ++ (need, x) ∷ [])) (after x))
 
 -- and so do those of a task that waits
 pub record WaitHolds (past : Past (List Cells)) (w : Wait) : Type 0 where
