@@ -1,5 +1,5 @@
 -- The worked runs of the README, computed from the definitions.
-use Rattle.std.proofs.Common.{ℕ, ◌+◌, ◌≡◌, ◌&&◌, not, refl, List, [], ◌∷◌, length, map, Option, Some, None, Bool, true, false, cond, eqb, Ok, Err}
+use Rattle.std.proofs.Common.{ℕ, ◌+◌, ◌≡◌, inr, ◌&&◌, not, refl, List, [], ◌∷◌, length, map, Option, Some, None, Bool, true, false, cond, eqb, Ok, Err}
 use Rattle.dfx_value.specs.declared.fault.ItemFault.{ItemFault}
 use Rattle.dfx_value.specs.declared.value.Value.TheVariants as value
 use Rattle.run_journal.specs.declared.cause.Cause.{Cause}
@@ -14,7 +14,7 @@ use Rattle.run_histories.specs.Histories.{Go, past_of, begun}
 use Rattle.logical_plan.specs.Items.{Cells, Item}
 use Rattle.task_trees.specs.Operators.{Op}
 use Rattle.task_trees.specs.OperatorKinds.{end_op, merge}
-use Rattle.task_trees.specs.Trees.{Tree, Nothing, Files, Inlet, Node, Poll, Gives, Ends, Moves, Asks, cause_at, poll}
+use Rattle.task_trees.specs.Trees.{File, Tree, Nothing, Files, Inlet, Node, Poll, Gives, Ends, Moves, Asks, cause_at, poll, IsSubtree}
 use Rattle.task_trees.specs.Tasks.{Split, Task}
 use Rattle.task_trees.specs.Runs.{State, the_task, state_replay}
 
@@ -119,6 +119,15 @@ one_sort_needs = refl
 one_sort_output : output_of 0 (state_replay one_sort 2 10 (Some one_sort_start) one_sort_run) ≡ row true ∷ row false ∷ row true ∷ []
 unfolding one_sort one_sort_start one_sort_run sort_task kept_rows below file row by output_of wake put_gate with_pool move_to progress_is failed share_of grants
 one_sort_output = refl
+
+-- the scan stands in the sort's tree, and the sort not in the scan's
+scan_inside : IsSubtree (Files file (record { source = 0; items = file } ∷ []) [] []) sort_task.tree
+unfolding sort_task below file
+scan_inside = inr (0, refl)
+
+sort_outside : (all : List Item) (files : List File) (gave unread : List Cells) → IsSubtree sort_task.tree (Files all files gave unread) → ⊥
+unfolding sort_task
+sort_outside all files gave unread e = cc
 
 -- ------------------------------------------------------------ a merge
 
