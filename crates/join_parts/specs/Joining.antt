@@ -5,10 +5,9 @@ use Rattle.dfx_value.specs.declared.op.JoinKind.{JoinKind}
 use Rattle.scalar_exprs.specs.declared.expr.Expr.{Expr}
 use Rattle.logical_plan.specs.Items.{Cells, Item, rows, faults, of_faults}
 use Rattle.logical_plan.specs.Joins.{keys_match, right_pairs, left_alone, alone, nulls, keeps_left, keeps_right, when}
-use Rattle.plan_props.specs.Meets.{Row, Each}
+use Rattle.plan_props.specs.Meets.{Each}
 use Rattle.task_trees.specs.Operators.{Told, Op}
 use Rattle.task_trees.specs.OperatorKinds.{join_op}
-use Rattle.whole_contents.specs.Bags.{together}
 
 -- ---- the operator, with all of its left side before the first of its right side
 
@@ -36,7 +35,3 @@ join_items kind left_width right_width keys rest ls rs =
 -- a left row and a right row with equal keys, none of them NULL, lie in partitions of one number
 abbrev pub AreMatched : List (ℕ × ℕ) → ℕ → (ℕ → List Item) → (ℕ → List Item) → Type 0
 AreMatched keys n lefts rights = (i j : ℕ) → i < n → j < n → Each (λ l. Each (λ r. keys_match keys l r ≡ true → i ≡ j) (rows (rights j))) (rows (lefts i))
-
--- the rows of each of n partitions
-abbrev pub row_parts : ℕ → (ℕ → List Item) → List (List Row)
-row_parts n parts = together n (λ i. rows (parts i) ∷ [])

@@ -14,9 +14,9 @@ ghost use Rattle.physical_plan.specs.NodeRows.{Joined};
 ghost use Rattle.node_laws.specs.Nodes.{JoinRow};
 ghost use Rattle.task_trees.specs.Operators.{Told, with_rows, with_end, with_flush};
 ghost use Rattle.task_trees.specs.OperatorKinds.{is_empty};
-ghost use Rattle.whole_contents.specs.Bags.{SameBag, Alike, together};
-ghost use Rattle.join_parts.specs.Joining.{hash_join, join_items, AreMatched, row_parts};
-ghost use Rattle.join_parts.specs.Tables.{KeyPlaces, upsert, find, entered, matches, places_of, row_at, marks_after, unmarked};
+ghost use Rattle.whole_contents.specs.Bags.{SameBag, Alike, together, row_parts};
+ghost use Rattle.join_parts.specs.Joining.{hash_join, join_items, AreMatched};
+ghost use Rattle.join_parts.specs.Tables.{KeyPlaces, entered, matches, places_of, row_at, marks_after, unmarked};
 ghost use Rattle.join_parts.specs.States.{Join, op_of, JoinState, at_start, accepted, ended, gave, StandsFor};
 
 /// A hash join gives the items of the meaning, in another order (`one`). Of partitions in which matching rows lie together it gives
@@ -54,7 +54,7 @@ pub fn join_law()
 /// How code joins: a table from the keys of left rows to their places tells the left rows that match a right row, in their order
 /// (`found`), so what a right row gives (`pairs`), and the left rows without a match or a fault (`lefts`), which are those without
 /// a mark (`marks`). The places are within the left rows, and there is a mark for each (`within`). A table grows by rows (`grown`),
-/// each of which is one `upsert`, and what stands at a key is what its upserts made (`upserted`).
+/// each of which is one `upsert` at most.
 pub fn table_law()
     ensures found { (keys : List (ℕ × ℕ)) (ls : List Cells) (r : Cells) → matches keys ls r ≡ places_of (λ l. keys_match keys l r) 0 ls }
     ensures pairs { (keys : List (ℕ × ℕ)) (rest : Option Expr) (ls : List Cells) (r : Cells)
@@ -67,8 +67,6 @@ pub fn table_law()
         → All (λ at. at < length ls) (matches keys ls r) × (length (marks_after keys rest ls rs) ≡ length ls) }
     ensures grown { (columns : List ℕ) (t : KeyPlaces) (at : ℕ) (ls more : List Cells)
         → entered columns t at (ls ++ more) ≡ entered columns (entered columns t at ls) (at + length ls) more }
-    ensures upserted { (es : List (Cells × List ℕ)) (key k : Cells) (start : List ℕ) (f : List ℕ → List ℕ)
-        → find (upsert es key start f) k ≡ (if same_keys key k then Some (f (unwrap_or (find es k) start)) else find es k) }
 {}
 
 /// What an operator of a hash join may hold, call by call. Where it stands for what it was told and gave, it asks the operator's

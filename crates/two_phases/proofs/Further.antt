@@ -1,11 +1,11 @@
 -- The kinds of the rows of the first phase, the faults of the second, segments, and what a hash need gives.
-use Rattle.std.proofs.Common.{ℕ, zero, suc, ◌+◌, ◌^◌, ◌≡◌, refl, sym, ap, ◌∙◌, subst, cond, ltb, List, [], ◌∷◌, ◌++◌, map, length, drop, Bool, true, false, not, ◌||◌, Option, Some, None, Ok, arith}
-use Rattle.std.specs.Prelude.{slice_get}
+use Rattle.std.proofs.Common.{ℕ, zero, suc, ◌<◌, ◌^◌, ◌≡◌, refl, sym, ap, ◌∙◌, subst, cond, ltb, List, [], ◌∷◌, ◌++◌, map, length, drop, Bool, true, false, not, ◌||◌, Option, Some, None, arith}
+use Rattle.std.specs.Prelude.{slice_get, slice_index_or}
 use Rattle.std.specs.List.{sum_by, filter, list_any, flat_map, AllPass}
+use Rattle.std.specs.Cmp.{Equal-is}
 use Rattle.std.proofs.lemmas.Bool.{true≢false, and_parts, and_from, eq-eqb}
 use Rattle.std.proofs.lemmas.List.{append-nil, append_assoc}
 use Rattle.std.proofs.lemmas.List.Concat.{flat_map-append}
-use Rattle.std.proofs.lemmas.List.Sums.{sum_by-cons}
 use Rattle.dfx_value.specs.Order.{value_cmp}
 use Rattle.dfx_value.specs.Rows.{cell}
 use Rattle.dfx_value.specs.Kinds.{is_of, are_of}
@@ -24,16 +24,20 @@ use Rattle.logical_plan.specs.Items.{Cells, Item, rows, faults, of_rows, concat}
 use Rattle.logical_plan.specs.Groups.{alike, one_group, aggregated}
 use Rattle.two_phases.specs.States.{state_of, capped, past, within, cells_of, sum_cells}
 use Rattle.two_phases.specs.States.State.{Sums}
-use Rattle.two_phases.specs.Phases.{AreApart, states_of, phase_row, phase_rows, phase, state_kinds, states_kinds, phase_kinds, one_final, final, segments_of, Gathers}
+use Rattle.two_phases.specs.Phases.{AreApart, states_of, phase_row, phase_rows, phase, state_kinds, states_kinds, phase_kinds, one_final, final, segments_of}
 use Rattle.physical_plan.specs.Layout.{numbers}
 use Rattle.task_trees.specs.OperatorKinds.{closed_items}
-use Rattle.whole_contents.specs.Bags.{SameBag, together}
-use Rattle.plan_props.specs.Meets.{AllEqual, Each as EachRow}
+use Rattle.whole_contents.specs.Bags.{SameBag, together, row_parts}
+use Rattle.plan_props.specs.Meets.{AllEqual, Each as EachRow, Gathers, Hashing, Delivers}
+use Rattle.physical_plan.specs.Planned.{group_need}
 use Rattle.two_phases.proofs.Bags.{Each, each-filter, bag_each}
-use Rattle.two_phases.proofs.Exact.{of_column, cell_fits, is_eq_is}
+use Rattle.two_phases.proofs.Exact.{of_column, cell_fits}
 use Rattle.two_phases.proofs.Groups.{like, each-firsts}
 use Rattle.two_phases.proofs.Core.{best_column, least_fits, greatest_fits}
-use Rattle.two_phases.proofs.Items.{each_pass, bag_faults, faults-phase, rows_both, with_keys, one_item}
+use Rattle.task_trees.proofs.Fronts.{of_rows-append, concat-append}
+use Rattle.whole_contents.proofs.Weights.{none_left}
+use Rattle.whole_contents.proofs.Items.{bag_faults, rows_both, length-row_parts, row_parts_at}
+use Rattle.two_phases.proofs.Items.{each_pass, faults-phase, with_keys, one_item}
 use Rattle.two_phases.proofs.Distinct.{all_from}
 
 -- ---- kinds
@@ -108,13 +112,9 @@ faults_kept [] calls kinds segments input n parts test good same came apart own 
     by : (fs gs : List ItemFault) → SameBag fs gs → Each test fs → Each test (faults (one_group calls kinds (rows input) gs ∷ [])) → SameBag (parts 0) (flat_map (phase [] calls kinds) segments) → Each test (faults (one_final calls (phase_kinds [] calls kinds) (rows (parts 0)) fs ∷ []))
     by (f ∷ fs) gs e h k one = (h.0, tt)
     by [] [] e h k one = subst (λ x. Each test (faults (x ∷ []))) (sym (one_item calls kinds segments input (parts 0) good same one)) k
-    by [] (g ∷ gs) e h k one = absurd (let a : 0 ≡ sum_by (λ _. 1) (g ∷ gs) = e (λ _. 1) in let b : sum_by (λ _. 1) (g ∷ gs) ≡ 1 + sum_by (λ _. 1) gs = sum_by-cons (λ _. 1) g gs in omega arith)
+    by [] (g ∷ gs) e h k one = none_left g gs e
 
 -- ---- segments
-
-of_rows-append : (xs ys : List Cells) → of_rows (xs ++ ys) ≡ of_rows xs ++ of_rows ys
-of_rows-append [] ys = refl
-of_rows-append (x ∷ xs) ys = ap (λ zs. Ok x ∷ zs) (of_rows-append xs ys)
 
 drop_rows : (xs : List Cells) (rest : List Item) → drop (length xs) (of_rows xs ++ rest) ≡ rest
 drop_rows [] rest = refl
@@ -137,7 +137,7 @@ segments_are f closed rest = (closed_is f closed _, concat_is closed _ ∙ ap (�
 
 all_equal : (a b : List Value) → same_keys a b ≡ true → AllEqual a b
 all_equal [] [] e = tt
-all_equal (x ∷ xs) (y ∷ ys) e = let p = and_parts (same_value x y) (same_keys xs ys) e in (is_eq_is (value_cmp x y) p.0, all_equal xs ys p.1)
+all_equal (x ∷ xs) (y ∷ ys) e = let p = and_parts (same_value x y) (same_keys xs ys) e in ((Equal-is (value_cmp x y)).0 p.0, all_equal xs ys p.1)
 all_equal [] (y ∷ ys) e = absurd (true≢false (sym e))
 all_equal (x ∷ xs) [] e = absurd (true≢false (sym e))
 
@@ -153,14 +153,23 @@ each_apart : (keys : List ℕ) (i j : ℕ) → (i ≡ j → ⊥) → (xs ys : Li
 each_apart keys i j other [] ys h = tt
 each_apart keys i j other (r ∷ rs) ys h = (none_of keys i j other r ys h.0, each_apart keys i j other rs ys h.1)
 
-pub gathered : (column : ℕ) (columns : List ℕ) (n : ℕ) (parts : ℕ → List Item) → Gathers (column ∷ columns) parts → AreApart (column ∷ columns) n parts
-gathered column columns n parts h = λ i j l m. all_from _ (rows (parts i)) (each_apart (column ∷ columns) i j (λ e. omega arith) (rows (parts i)) (rows (parts j)) (h i j))
+pub gathered : (column : ℕ) (columns : List ℕ) (n : ℕ) (parts : ℕ → List Item) → Gathers (column ∷ columns) n (row_parts n parts) → AreApart (column ∷ columns) n parts
+gathered column columns n parts h = λ i j l m. all_from _ (rows (parts i)) (each_apart (column ∷ columns) i j (λ e. omega arith) (rows (parts i)) (rows (parts j)) (lying i j l m))
+  where
+    LieTogether : ℕ → ℕ → List Cells → List Cells → Type 0
+    LieTogether i j xs ys = EachRow (λ r. EachRow (λ s. AllEqual (key_list (column ∷ columns) r) (key_list (column ∷ columns) s) → i ≡ j) ys) xs
+
+    lying : (i j : ℕ) → i < j → j < n → LieTogether i j (rows (parts i)) (rows (parts j))
+    lying i j l m =
+        subst (LieTogether i j (rows (parts i))) (row_parts_at n j parts m)
+        (subst (λ zs. LieTogether i j zs (slice_index_or (row_parts n parts) j [])) (row_parts_at n i parts (omega arith)) (h.together i j))
+
+-- what a second phase needs of its input
+pub needed : (h : Hashing) (keys : List ℕ) (n : ℕ) (parts : ℕ → List Item) → Delivers h (group_need keys n) (row_parts n parts) → AreApart keys n parts
+needed h [] n parts e = sym (length-row_parts n parts) ∙ e
+needed h (column ∷ columns) n parts e = gathered column columns n parts e
 
 -- ---- partitions of the first phase
-
-concat-append : (xs ys : List (List Item)) → concat (xs ++ ys) ≡ concat xs ++ concat ys
-concat-append [] ys = refl
-concat-append (x ∷ xs) ys = ap (λ zs. x ++ zs) (concat-append xs ys) ∙ sym (append_assoc x (concat xs) (concat ys))
 
 cut_together : (f : List Item → List Item) (n : ℕ) (cuts : ℕ → List (List Item)) → together n (λ i. flat_map f (cuts i)) ≡ flat_map f (together n cuts)
 cut_together f zero cuts = refl

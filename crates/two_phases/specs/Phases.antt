@@ -14,7 +14,6 @@ use Rattle.scalar_exprs.specs.Groups.{key_list, same_keys, firsts}
 use Rattle.logical_plan.specs.Body.{kind_or_text, key_kinds}
 use Rattle.logical_plan.specs.Groups.{alike}
 use Rattle.logical_plan.specs.Items.{Cells, Item, rows, faults, of_rows, of_faults, all_values, as_item, concat}
-use Rattle.plan_props.specs.Meets.{AllEqual, Each}
 use Rattle.two_phases.specs.States.{state_of, all_joined, cells_of, read, finished}
 use Rattle.physical_plan.specs.Properties.{state_width}
 
@@ -98,8 +97,3 @@ AreApart (column ∷ columns) n parts = (i j : ℕ) → i < j → j < n → IsAp
 
 abbrev pub segments_of : List (List Cells) → List Item → List (List Item)
 segments_of closed items = map of_rows closed ++ drop (length (concat closed)) items ∷ []
-
--- ---- rows of which equal keys stand in one partition, as a need of a hash asks
-
-abbrev pub Gathers : List ℕ → (ℕ → List Item) → Type 0
-Gathers keys parts = (i j : ℕ) → Each (λ r. Each (λ s. AllEqual (key_list keys r) (key_list keys s) → i ≡ j) (rows (parts j))) (rows (parts i))

@@ -1,21 +1,16 @@
 -- Meaning: tables of states by keys, which take one row after the other.
-use Rattle.std.specs.Prelude.{List, [], ◌∷◌, ◌++◌, ℕ, if◌then◌else◌, fold, drop, Ok}
+use Rattle.std.specs.Prelude.{List, [], ◌∷◌, ◌++◌, ℕ, fold, drop, Ok}
 use Rattle.dfx_value.specs.Checked.{◌>>=◌}
 use Rattle.dfx_value.specs.declared.kind.Kind.{Kind}
 use Rattle.dfx_value.specs.declared.op.AggCall.{AggCall}
 use Rattle.scalar_exprs.specs.Agg.{argument}
 use Rattle.scalar_exprs.specs.Functions.{Outcome}
-use Rattle.scalar_exprs.specs.Groups.{same_keys}
 use Rattle.scalar_exprs.specs.Kinds.{argument_kind}
 use Rattle.logical_plan.specs.Items.{Cells, Item, all_values, as_item}
+use Rattle.key_table.specs.Entries.{upsert}
 use Rattle.two_phases.specs.States.{State, state_of, joined, read, cells_of, finished}
 use Rattle.physical_plan.specs.Properties.{state_width}
 use Rattle.two_phases.specs.Phases.{told_kind}
-
--- the entry of a key with one row more, at the end where it is a new one
-abbrev pub upsert : {S : Type 0} → List (Cells × S) → Cells → S → (S → S) → List (Cells × S)
-upsert [] k start f = (k, f start) ∷ []
-upsert (e ∷ es) k start f = if same_keys e.0 k then (e.0, f e.1) ∷ es else e ∷ upsert es k start f
 
 abbrev pub table_step : {R S : Type 0} → (R → Cells) → S → (S → R → S) → List (Cells × S) → R → List (Cells × S)
 table_step key start add t r = upsert t (key r) start (λ s. add s r)

@@ -11,10 +11,12 @@ ghost use Rattle.scalar_exprs.specs.Agg.{agg};
 ghost use Rattle.scalar_exprs.specs.Groups.{key_list};
 ghost use Rattle.two_phases.specs.States.{State, state_of, joined, read, cells_of, finished};
 ghost use Rattle.two_phases.specs.Tables.{table, starts, with_row, all_cells, with_cells, finished_item};
-ghost use Rattle.two_phases.specs.Phases.{phase_rows, grouped, final_item, phase, phase_kinds, final, AreApart, Gathers, segments_of};
+ghost use Rattle.two_phases.specs.Phases.{phase_rows, grouped, final_item, phase, phase_kinds, final, AreApart, segments_of};
+ghost use Rattle.plan_props.specs.Meets.{Hashing, Gathers, Delivers};
+ghost use Rattle.physical_plan.specs.Planned.{group_need};
 ghost use Rattle.physical_plan.specs.Layout.{numbers};
 ghost use Rattle.task_trees.specs.OperatorKinds.{closed_items};
-ghost use Rattle.whole_contents.specs.Bags.{SameBag, together, Alike};
+ghost use Rattle.whole_contents.specs.Bags.{SameBag, together, Alike, row_parts};
 
 /// Grouping in two phases gives the groups of the whole: of the rows that the first phase makes of any segments of any arrangement
 /// of the input, in any order and over any partitions in which rows with the same keys stand together, the second phase makes the
@@ -49,7 +51,10 @@ pub fn two_phases_law()
         × (concat (segments_of closed (of_rows (concat closed) ++ rest)) ≡ of_rows (concat closed) ++ rest) }
     ensures partitions { (f : List Item → List Item) (n : ℕ) (cuts : ℕ → List (List Item))
         → (together n (λ i. flat_map f (cuts i)) ≡ flat_map f (together n cuts)) × (concat (together n cuts) ≡ together n (λ i. concat (cuts i))) }
-    ensures gathered { (column : ℕ) (columns : List ℕ) (n : ℕ) (parts : ℕ → List Item) → Gathers (column ∷ columns) parts → AreApart (column ∷ columns) n parts }
+    ensures gathered { (column : ℕ) (columns : List ℕ) (n : ℕ) (parts : ℕ → List Item)
+        → Gathers (column ∷ columns) n (row_parts n parts) → AreApart (column ∷ columns) n parts }
+    ensures needed { (h : Hashing) (keys : List ℕ) (n : ℕ) (parts : ℕ → List Item)
+        → Delivers h (group_need keys n) (row_parts n parts) → AreApart keys n parts }
 {}
 
 /// The rows and items of the two phases, as a table gives them that takes one row after the other.
