@@ -1,0 +1,4 @@
+mod Rows
+mod Values
+mod Nodes
+mod Bodies
