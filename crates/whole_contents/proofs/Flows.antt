@@ -22,7 +22,7 @@ use Rattle.whole_contents.specs.Whole.{past_in, tree_in, parts_of, unsent, still
 -- only the contents of a tree's own channels count
 pub whole_same : (full full2 : ℕ → ℕ → List Item) (t : Tree) → ((g c : ℕ) → HasInlet g c t → full g c ≡ full2 g c) → whole full t ≡ whole full2 t
 whole_same full full2 Nothing h = refl
-whole_same full full2 (Files all source files gave unread) h = refl
+whole_same full full2 (Files all files gave unread) h = refl
 whole_same full full2 (Inlet g c gave unread over) h = h g c (refl, refl)
 whole_same full full2 (Node op t d inputs) h = ap (op.whole t) (same_functions (λ i. whole full (inputs i)) (λ i. whole full2 (inputs i)) (λ i. whole_same full full2 (inputs i) (λ g c e. h g c (i, e))))
 

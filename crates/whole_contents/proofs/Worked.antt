@@ -31,7 +31,7 @@ shape = record {
 }
 
 sender : List Item → List Cells → Parts → Task
-sender all gave parts = record { tree = Files all 0 [] gave []; header = false; split = Some (whole_split (λ j. 0)); batches = 0; parts = parts; leaving = false; output = [] }
+sender all gave parts = record { tree = Files all [] gave []; header = false; split = Some (whole_split (λ j. 0)); batches = 0; parts = parts; leaving = false; output = [] }
 
 root : Task
 root = record { tree = Inlet 1 0 [] [] false; header = false; split = None; batches = 0; parts = []; leaving = false; output = [] }
