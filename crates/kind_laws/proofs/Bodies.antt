@@ -20,7 +20,7 @@ use Rattle.logical_plan.specs.Joins.{joined}
 use Rattle.logical_plan.specs.Groups.{aggregated}
 use Rattle.logical_plan.specs.Body.{Tables, Part, whole, body, kinds, node, scan, first_kinds, key_kinds, call_kinds}
 use Rattle.logical_plan.proofs.BodySteps.{kinds_at}
-use Rattle.kind_laws.specs.Kinded.{same_kinds, is_kinded, is_test, is_rest, keys_compare, has_columns, calls_fit, is_table, all_as, are_united, kinded_node, is_well_kinded}
+use Rattle.kind_laws.specs.Kinded.{same_kinds, has_kind, is_test, is_rest, keys_compare, has_columns, calls_fit, is_table, all_as, are_united, kinded_node, is_well_kinded}
 use Rattle.kind_laws.specs.Giving.{gives_kinds, all_give, below_node, all_below_give, everywhere_kinded}
 use Rattle.kind_laws.specs.Tables.{TablesHave}
 use Rattle.kind_laws.proofs.Rows.{items_append}
@@ -126,7 +126,7 @@ module _ (kss : List (List Kind)) (tables : Tables) (have : TablesHave kss table
   step (Logical-F.Scan table ks) = level (Logical-F.Scan table ks) (λ e. scan_gives kss tables have table ks e)
   step (Logical-F.Filter x test) = level (Logical-F.Filter x.0 test) (λ e. filter_gives (kinds x.0) test (body tables x.0) (x.1 (and_parts (is_well_kinded kss x.0) (is_test (kinds x.0) test) e).0))
   step (Logical-F.Project x items) = level (Logical-F.Project x.0 items) (λ e. (
-      let a = and_parts (is_well_kinded kss x.0) (list_all (is_kinded (kinds x.0)) items) e in
+      let a = and_parts (is_well_kinded kss x.0) (list_all (has_kind (kinds x.0)) items) e in
       project_gives (kinds x.0) items a.1 (body tables x.0) (x.1 a.0)))
   step (Logical-F.Join kind x y keys rest) = level (Logical-F.Join kind x.0 y.0 keys rest) (λ e. (
       let fits = keys_compare (kinds x.0) (kinds y.0) keys && is_rest (kinds x.0 ++ kinds y.0) rest in
@@ -191,7 +191,7 @@ module _ (kss : List (List Kind)) (tables : Tables) (have : TablesHave kss table
   below_step : (y : Logical-F Knower) → Below (roll-Logical (map-Logical Knower Logical (λ k. k.0) y))
   below_step (Logical-F.Scan table ks) = below_level (Logical-F.Scan table ks) (λ e. refl)
   below_step (Logical-F.Filter x test) = below_level (Logical-F.Filter x.0 test) (λ e. one x (and_parts (is_well_kinded kss x.0) (is_test (kinds x.0) test) e).0)
-  below_step (Logical-F.Project x items) = below_level (Logical-F.Project x.0 items) (λ e. one x (and_parts (is_well_kinded kss x.0) (list_all (is_kinded (kinds x.0)) items) e).0)
+  below_step (Logical-F.Project x items) = below_level (Logical-F.Project x.0 items) (λ e. one x (and_parts (is_well_kinded kss x.0) (list_all (has_kind (kinds x.0)) items) e).0)
   below_step (Logical-F.Join kind x y keys rest) = below_level (Logical-F.Join kind x.0 y.0 keys rest) (λ e. (
       let fits = keys_compare (kinds x.0) (kinds y.0) keys && is_rest (kinds x.0 ++ kinds y.0) rest in
       let a = and_parts (is_well_kinded kss x.0) (is_well_kinded kss y.0 && fits) e in

@@ -2,3 +2,5 @@ mod Rows
 mod Values
 mod Nodes
 mod Bodies
+mod Fields
+mod Files

@@ -19,7 +19,7 @@ use Rattle.logical_plan.specs.Items.{Cells, Item, rows, faults, of_rows, of_faul
 use Rattle.logical_plan.specs.Joins.{keys_match, residual, paired, left_pairs, right_pairs, pairs, nulls, alone, left_alone, right_alone, keeps_left, keeps_right, when, joined}
 use Rattle.logical_plan.specs.Groups.{alike, group_of, group_item, one_group, groups, aggregated, distinct}
 use Rattle.logical_plan.specs.Body.{item_kinds, key_kinds, call_kinds}
-use Rattle.kind_laws.specs.Kinded.{is_kinded, has_columns, calls_fit}
+use Rattle.kind_laws.specs.Kinded.{has_kind, has_columns, calls_fit}
 use Rattle.kind_laws.proofs.Rows.{are_append, nulls_are, all_filter, all_firsts, items_append, faults_alone, rows_alone, rows_flat, items_flat, item_is, items_map, rows_map}
 use Rattle.kind_laws.proofs.Values.{RowFits, items_fit, keys_fit, answers_fit}
 
@@ -39,7 +39,7 @@ as_item_fits : (ks : List Kind) (r : Result Cells EvalFault) → RowFits ks r �
 as_item_fits ks (Ok vs) h = and_from _ _ h refl
 as_item_fits ks (Err f) h = refl
 
-pub project_gives : (ks : List Kind) (exprs : List Expr) → list_all (is_kinded ks) exprs ≡ true → (items : List Item) → all_are ks (rows items) ≡ true → all_are (item_kinds ks exprs) (rows (project_items exprs items)) ≡ true
+pub project_gives : (ks : List Kind) (exprs : List Expr) → list_all (has_kind ks) exprs ≡ true → (items : List Item) → all_are ks (rows items) ≡ true → all_are (item_kinds ks exprs) (rows (project_items exprs items)) ≡ true
 project_gives ks exprs e items p =
     items_map ks (item_kinds ks exprs) (projected exprs)
     (λ r h. as_item_fits (item_kinds ks exprs) (projected_row exprs r) (items_fit ks r h exprs e)) (λ f. refl) items p

@@ -31,7 +31,7 @@ use Rattle.scalar_exprs.proofs.ValueKinds.{Fits, null_is_of}
 use Rattle.scalar_exprs.proofs.KindLemmas.{kind_sound}
 use Rattle.logical_plan.specs.Items.{Cells, all_values}
 use Rattle.logical_plan.specs.Body.{kind_or_text, item_kinds, key_kinds, call_kinds}
-use Rattle.kind_laws.specs.Kinded.{is_kinded, has_columns, calls_fit}
+use Rattle.kind_laws.specs.Kinded.{has_kind, has_columns, calls_fit}
 
 -- ---- expressions
 
@@ -44,7 +44,7 @@ some_fits : (o : Option Kind) (r : Outcome) → is_some o ≡ true → ((k : Kin
 some_fits (Some k) r p h = h k refl
 some_fits None r p h = absurd (false≢true p)
 
-pub value_fits : (columns : List Kind) (row : Cells) → are_of columns row ≡ true → (e : Expr) → is_kinded columns e ≡ true → Fits (kind_or_text (kind_of columns e)) (eval row e)
+pub value_fits : (columns : List Kind) (row : Cells) → are_of columns row ≡ true → (e : Expr) → has_kind columns e ≡ true → Fits (kind_or_text (kind_of columns e)) (eval row e)
 value_fits columns row cells e p =
     let b = and_parts (is_some (kind_of columns e)) (constants_fit e) p in
     some_fits (kind_of columns e) (eval row e) b.0 (λ k s. kind_sound columns row cells e b.1 k s)
@@ -54,10 +54,10 @@ more_fits k ks (Err f) rest p q = tt
 more_fits k ks (Ok v) (Err f) p q = tt
 more_fits k ks (Ok v) (Ok vs) p q = and_from (is_of k v) (are_of ks vs) p q
 
-pub items_fit : (columns : List Kind) (row : Cells) → are_of columns row ≡ true → (es : List Expr) → list_all (is_kinded columns) es ≡ true → RowFits (item_kinds columns es) (all_values (map (eval row) es))
+pub items_fit : (columns : List Kind) (row : Cells) → are_of columns row ≡ true → (es : List Expr) → list_all (has_kind columns) es ≡ true → RowFits (item_kinds columns es) (all_values (map (eval row) es))
 items_fit columns row cells [] p = refl
 items_fit columns row cells (e ∷ es) p =
-    let b = and_parts (is_kinded columns e) (list_all (is_kinded columns) es) p in
+    let b = and_parts (has_kind columns e) (list_all (has_kind columns) es) p in
     more_fits (kind_or_text (kind_of columns e)) (item_kinds columns es) (eval row e) (all_values (map (eval row) es))
     (value_fits columns row cells e b.0) (items_fit columns row cells es b.1)
 

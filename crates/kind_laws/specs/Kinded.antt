@@ -21,8 +21,8 @@ same_kinds _ _ = false
 -- ---- expressions over columns of these kinds
 
 -- an expression has a kind, and each of its constants is of its own
-abbrev pub is_kinded : List Kind → Expr → Bool
-is_kinded columns e = is_some (kind_of columns e) && constants_fit e
+abbrev pub has_kind : List Kind → Expr → Bool
+has_kind columns e = is_some (kind_of columns e) && constants_fit e
 
 abbrev pub is_truth : Option Kind → Bool
 is_truth (Some kind.Bool) = true
@@ -75,7 +75,7 @@ are_united (q ∷ qs) = q.1 && all_as (kinds q.0) qs
 abbrev pub kinded_node : List (List Kind) → Logical-F (Logical × Bool) → Bool
 kinded_node tables (Logical-F.Scan table ks) = is_table (slice_get tables table) ks
 kinded_node tables (Logical-F.Filter input test) = input.1 && is_test (kinds input.0) test
-kinded_node tables (Logical-F.Project input items) = input.1 && list_all (is_kinded (kinds input.0)) items
+kinded_node tables (Logical-F.Project input items) = input.1 && list_all (has_kind (kinds input.0)) items
 kinded_node tables (Logical-F.Join kind left right keys rest) =
     left.1 && (right.1 && (keys_compare (kinds left.0) (kinds right.0) keys && is_rest (kinds left.0 ++ kinds right.0) rest))
 kinded_node tables (Logical-F.Aggregate input keys calls) =

@@ -3,4 +3,4 @@
 
 mod law;
 
-pub use law::kinds_law;
+pub use law::{kinds_law, tables_law};
