@@ -10,3 +10,6 @@ pub mod Runs
 pub mod OperatorKinds
 pub mod Merges
 pub mod Worked
+pub mod Kept
+pub mod Batches
+pub mod Subtrees

@@ -1,18 +1,20 @@
 -- The worked runs of the README, computed from the definitions.
-use Rattle.std.proofs.Common.{ℕ, ◌+◌, ◌≡◌, ◌&&◌, not, refl, List, [], ◌∷◌, length, map, Option, Some, None, Bool, true, false, cond, eqb, Ok}
+use Rattle.std.proofs.Common.{ℕ, ◌+◌, ◌≡◌, inr, ◌&&◌, not, refl, List, [], ◌∷◌, length, map, Option, Some, None, Bool, true, false, cond, eqb, Ok, Err}
+use Rattle.dfx_value.specs.declared.fault.ItemFault.{ItemFault}
 use Rattle.dfx_value.specs.declared.value.Value.TheVariants as value
+use Rattle.run_journal.specs.declared.cause.Cause.{Cause}
 use Rattle.run_journal.specs.declared.entry.Entry.{Entry}
 use Rattle.run_journal.specs.declared.entry.EntryKind.{EntryKind}
 use Rattle.run_journal.specs.declared.entry.EntryKind.TheVariants.{Claimed, Scanned, Received, Empty, Ended as EndedKind, Sent, Held, Granted, Refused as RefusedKind, Freed, Wrote, Finished}
 use Rattle.gate_channels.specs.Gate.{sent, received, ended, awaited, dropped, held}
 use Rattle.fair_pool.specs.Share.{share_of, grants}
 use Rattle.core_frame.specs.Shape.{Shape}
-use Rattle.core_frame.specs.Step.{Need, Scan, Grow, Free, Writes, wake, put_gate, with_pool, move_to, progress_is, failed}
-use Rattle.run_histories.specs.Histories.{past_of, begun}
+use Rattle.core_frame.specs.Step.{Need, Scan, Grow, Free, Writes, Fail, wake, put_gate, with_pool, move_to, progress_is, failed}
+use Rattle.run_histories.specs.Histories.{Go, past_of, begun}
 use Rattle.logical_plan.specs.Items.{Cells, Item}
 use Rattle.task_trees.specs.Operators.{Op}
 use Rattle.task_trees.specs.OperatorKinds.{end_op, merge}
-use Rattle.task_trees.specs.Trees.{Tree, Nothing, Files, Inlet, Node}
+use Rattle.task_trees.specs.Trees.{File, Tree, Nothing, Files, Inlet, Node, Poll, Gives, Ends, Moves, Asks, cause_at, poll, IsSubtree}
 use Rattle.task_trees.specs.Tasks.{Split, Task}
 use Rattle.task_trees.specs.Runs.{State, the_task, state_replay}
 
@@ -47,7 +49,7 @@ to_first : Split
 to_first j b = (0, b) ∷ []
 
 scan_of : List Item → ℕ → Task
-scan_of file source = record { tree = Files file source (file ∷ []) [] []; header = false; split = Some to_first; batches = 0; parts = []; leaving = false; output = [] }
+scan_of file source = record { tree = Files file (record { source = source; items = file } ∷ []) [] []; header = false; split = Some to_first; batches = 0; parts = []; leaving = false; output = [] }
 
 root : Task
 root = record { tree = Inlet 1 0 [] [] false; header = true; split = None; batches = 0; parts = []; leaving = false; output = [] }
@@ -92,7 +94,7 @@ below x i = cond (eqb i 0) x Nothing
 
 sort_task : Task
 sort_task = record {
-  tree = Node kept_rows (record { kinds = λ _. []; taken = λ _. []; closed = []; since = []; ended = λ _. false }) (record { gave = []; offered = []; refused = false; held = 0 }) (below (Files file 0 (file ∷ []) [] []));
+  tree = Node kept_rows (record { taken = λ _. []; closed = []; since = []; ended = λ _. false }) (record { gave = []; offered = []; refused = false; held = 0 }) (below (Files file (record { source = 0; items = file } ∷ []) [] []));
   header = true;
   split = None;
   batches = 0;
@@ -117,6 +119,15 @@ one_sort_needs = refl
 one_sort_output : output_of 0 (state_replay one_sort 2 10 (Some one_sort_start) one_sort_run) ≡ row true ∷ row false ∷ row true ∷ []
 unfolding one_sort one_sort_start one_sort_run sort_task kept_rows below file row by output_of wake put_gate with_pool move_to progress_is failed share_of grants
 one_sort_output = refl
+
+-- the scan stands in the sort's tree, and the sort not in the scan's
+scan_inside : IsSubtree (Files file (record { source = 0; items = file } ∷ []) [] []) sort_task.tree
+unfolding sort_task below file
+scan_inside = inr (0, refl)
+
+sort_outside : (all : List Item) (files : List File) (gave unread : List Cells) → IsSubtree sort_task.tree (Files all files gave unread) → ⊥
+unfolding sort_task
+sort_outside all files gave unread e = cc
 
 -- ------------------------------------------------------------ a merge
 
@@ -143,3 +154,26 @@ merged_whole = refl
 merged_so_far : (merge earlier 2 two_inputs (λ i. eqb i 1)).given ≡ pair false false ∷ pair true true ∷ []
 unfolding two_inputs earlier first_cell pair
 merged_so_far = refl
+
+-- ------------------------------------------------------------ the source of a later file
+
+-- the cause of a failure that a tree asks for, if it asks for one
+cause_of : Poll → Option Cause
+cause_of (Asks (Fail x) after) = Some x
+cause_of _ = None
+
+-- the tree after a step, where each need is answered that it stands
+after_step : Poll → Tree
+after_step Ends = Nothing
+after_step (Gives rows rest) = rest
+after_step (Moves rest) = rest
+after_step (Asks need after) = after Go
+
+-- the first file of partition 0 of 4 has one row; its second file is the table's fifth, of source 4, and has a fault
+two_files : ItemFault → Tree
+two_files f = Files (Ok (row true) ∷ Err f ∷ []) (record { source = 0; items = Ok (row true) ∷ [] } ∷ record { source = 4; items = Err f ∷ [] } ∷ []) [] []
+
+-- the row is read, and given; then the run fails at source 4
+fails_at_its_source : (f : ItemFault) → cause_of (poll 2 (after_step (poll 2 (after_step (poll 2 (two_files f)))))) ≡ Some (cause_at 4 f)
+unfolding cause_of after_step two_files row
+fails_at_its_source f = refl
