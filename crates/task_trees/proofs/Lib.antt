@@ -13,3 +13,4 @@ pub mod Worked
 pub mod Kept
 pub mod Batches
 pub mod Subtrees
+pub mod Held

@@ -1,0 +1,6 @@
+mod Rows
+mod Values
+mod Nodes
+mod Bodies
+mod Fields
+mod Files
