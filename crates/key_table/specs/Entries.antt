@@ -3,7 +3,8 @@ use Rattle.std.specs.Prelude.{Option, Some, None, List, [], ◌∷◌, if◌then
 use Rattle.dfx_value.specs.declared.value.Value.{Value}
 use Rattle.scalar_exprs.specs.Groups.{same_keys}
 
--- the entry of a key changed; where the key is a new one, an entry at the end, changed from the start
+-- the entry of a key changed; where the key is a new one, an entry at the end, changed from the
+-- start
 abbrev pub upsert : {S : Type 0} → List (List Value × S) → List Value → S → (S → S) → List (List Value × S)
 upsert [] key start f = (key, f start) ∷ []
 upsert (e ∷ es) key start f = if same_keys e.0 key then (e.0, f e.1) ∷ es else e ∷ upsert es key start f
