@@ -4,7 +4,7 @@
 mod law;
 mod place;
 
-pub use law::{chain_law, frame_law, lawful_opening, lawful_step};
+pub use law::{carried_law, chain_law, frame_law, lawful_opening, lawful_step, sent_law};
 pub use place::Place;
 
 #[cfg(test)]

@@ -106,7 +106,7 @@ step (Plan-F.Repartition input to) = level (Plan-F.Repartition input.0 to) (λ k
 step (Plan-F.UnionAll inputs) = level (Plan-F.UnionAll (map (λ (k : Known). k.0) inputs)) (all_counted inputs)
 step (Plan-F.Limit input skip fetch) = level (Plan-F.Limit input.0 skip fetch) input.1
 
-every_counted : (p : Plan) → IsCounted p
+pub every_counted : (p : Plan) → IsCounted p
 every_counted = ind-Plan IsCounted (λ x y is. subst (λ z. IsCounted (roll-Plan z)) is (step y))
 
 -- ---- tasks by stage

@@ -101,7 +101,7 @@ Sent-append (x ∷ xs) ys h i = (h.0, Sent-append xs ys h.1 i)
 
 -- ---- numbers and readers
 
-count-numbers_from : (n at c : ℕ) → count c (numbers_from at n) ≡ cond (leb at c && ltb c (at + n)) 1 0
+pub count-numbers_from : (n at c : ℕ) → count c (numbers_from at n) ≡ cond (leb at c && ltb c (at + n)) 1 0
 count-numbers_from zero at c = grind (arith, nat_tests)
 count-numbers_from (suc n) at c = rw (count-numbers_from n (at + 1) c) (grind (arith, nat_tests))
 
@@ -136,7 +136,7 @@ merger_once k n g c = add-zero _ ∙ merger_count k g c (numbers n) ∙ ap (λ m
 
 -- ---- targets
 
-has_count : (xs : List ℕ) (c : ℕ) → has xs c ≡ true → 0 < count c xs
+pub has_count : (xs : List ℕ) (c : ℕ) → has xs c ≡ true → 0 < count c xs
 has_count [] c h = absurd (false≢true h)
 has_count (x ∷ xs) c h = elim (eqb_tells x c) [
   | inl w ↦ rw w.0 (omega arith)

@@ -1,5 +1,5 @@
 -- Filter and Project.
-use Rattle.std.proofs.Common.{ℕ, suc, ◌≡◌, ◌≢◌, ◌+◌, ◌-◌, ◌⊎◌, inl, inr, refl, sym, ap, ◌∙◌, subst, cond, eqb, Option, Some, None, Ok, Err, Bool, true, false, ◌||◌, List, [], ◌∷◌, ◌++◌, map, length, arith, zero-add, append_assoc, length-append}
+use Rattle.std.proofs.Common.{ℕ, suc, ◌≡◌, ◌≢◌, ◌+◌, ◌⊎◌, inl, inr, refl, sym, ap, ◌∙◌, subst, cond, eqb, Option, Some, None, Ok, Err, Bool, true, false, ◌||◌, List, [], ◌∷◌, ◌++◌, map, length, arith, zero-add, append_assoc, length-append}
 use Rattle.std.proofs.lemmas.Bool.{false≢true}
 use Rattle.std.proofs.lemmas.Bool.Decides.{eqb_tells}
 use Rattle.std.specs.declared.cmp.Ordering.{Ordering}

@@ -11,4 +11,6 @@ pub mod Sums
 pub mod PartitionCounts
 pub mod Countings
 pub mod Tops
+pub mod Owners
+pub mod Ascending
 pub mod Weaker

@@ -3,6 +3,7 @@ pub mod Desks
 pub mod Polls
 pub mod Wholes
 pub mod Turns
+pub mod Settles
 pub mod Endings
 pub mod Deliveries
 pub mod Runs

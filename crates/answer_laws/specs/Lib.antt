@@ -1,0 +1,11 @@
+pub mod Gives
+pub mod Fed
+pub mod Kept
+pub mod Meant
+pub mod Answering
+pub mod Parted
+pub mod Exchanged
+pub mod Ordered
+pub mod Resorted
+pub mod Engine
+pub mod Distincts

@@ -1,0 +1,99 @@
+-- The laws, from the recursion and the trees of a run.
+use Rattle.std.specs.List.{AllPass}
+use Rattle.std.proofs.Common.{ℕ, ◌≡◌, inl, inr, refl, sym, ◌∙◌, subst, List, [], ◌∷◌, Bool, true, false, Some, cond, arith}
+use Rattle.std.proofs.lemmas.List.Sums.{sum_by-cons}
+use Rattle.dfx_value.specs.declared.fault.ItemFault.{ItemFault}
+use Rattle.run_journal.specs.declared.cause.Cause.{Cause}
+use Rattle.run_journal.specs.declared.entry.Entry.{Entry}
+use Rattle.run_journal.specs.declared.entry.EntryKind.TheVariants.{Failed}
+use Rattle.core_frame.specs.Step.{Fail}
+use Rattle.run_histories.specs.Histories.{Past, Reply}
+use Rattle.physical_plan.specs.declared.plan.Plan.{Plan}
+use Rattle.physical_plan.specs.Layout.{shape}
+use Rattle.logical_plan.specs.declared.query.Query.{Query}
+use Rattle.logical_plan.specs.Items.{Cells, Item, faults, concat}
+use Rattle.logical_plan.specs.Body.{Tables, all_faults}
+use Rattle.task_trees.specs.Trees.{Tree, Asks, poll, form}
+use Rattle.task_trees.specs.Linked.{IsLinked, IsFlow}
+use Rattle.task_trees.specs.Runs.{State, state_step, state_replay, IsReached}
+use Rattle.whole_contents.specs.Whole.{tree_in, AreFull}
+use Rattle.plan_tasks.specs.Trees.{Doing, partitions_of}
+use Rattle.plan_tasks.specs.Tops.{tops}
+use Rattle.plan_tasks.specs.Starts.{start_of}
+use Rattle.plan_tasks.specs.Sources.{files_of}
+use Rattle.plan_tasks.specs.Placed.{deal_of, HasChannels}
+use Rattle.join_parts.proofs.Items.{fails, pass_weigh, pass_from}
+use Rattle.answer_laws.specs.Gives.{AllGive}
+use Rattle.answer_laws.specs.Fed.{AllFed}
+use Rattle.answer_laws.specs.Meant.{is_told}
+use Rattle.answer_laws.specs.Exchanged.{on_exchanges}
+use Rattle.answer_laws.specs.Engine.{IsEngine}
+use Rattle.physical_plan.specs.Planned.{erased}
+use Rattle.physical_build.specs.Build.{build}
+use Rattle.answer_laws.specs.Distincts.{has_distincts}
+use Rattle.answer_laws.proofs.Recursion.{recursion}
+use Rattle.part_laws.specs.Phased.{the_phases}
+use Rattle.part_laws.proofs.Lists.{parts}
+use Rattle.fault_laws.specs.Met.{met_of}
+use Rattle.fault_laws.specs.Trees.{Meets, LeavesPass}
+use Rattle.fault_laws.specs.Found.{Found, IsIn, Ends, is_of_fault, IsToldTop}
+use Rattle.fault_laws.proofs.Meets.{bads, badly, Holds, kept}
+use Rattle.fault_laws.proofs.Bodies.{query_meets}
+use Rattle.fault_laws.proofs.Fails.{PollFound, found}
+use Rattle.fault_laws.proofs.Runs.{tasks_meet}
+use Rattle.fault_laws.proofs.Chosen.{is_in, found_in, all_in}
+use Rattle.fault_laws.proofs.Causes as causes
+
+module _ (f : Doing) (tables : Tables) (engine : IsEngine f tables the_phases) (full : ℕ → ℕ → List Item) where
+  clear : (test : ItemFault → Bool) (p : Plan) → is_told tables on_exchanges p ≡ true → badly test (met_of tables p) ≡ 0 → (k s : ℕ) → AllFed f full (tops p k s)
+      → (xs : List (List Item)) → AllGive full (partitions_of f p k s) xs → badly test (faults (concat xs)) ≡ 0
+  clear test p told m k s fed xs g = bads test (concat xs) ∙ (recursion f full (Holds f tables engine test) (kept f tables engine test) p k s fed xs g).1 told m
+
+  pub pass : (test : ItemFault → Bool) (p : Plan) → is_told tables on_exchanges p ≡ true → AllPass test (met_of tables p) → (k s : ℕ) → AllFed f full (tops p k s)
+      → (xs : List (List Item)) → AllGive full (partitions_of f p k s) xs → AllPass test (faults (concat xs))
+  pass test p told m k s fed xs g = pass_from test (faults (concat xs)) (clear test p told (pass_weigh test (met_of tables p) m) k s fed xs g)
+
+  pub one : (p : Plan) → is_told tables on_exchanges p ≡ true → (k s : ℕ) → AllFed f full (tops p k s)
+      → (xs : List (List Item)) → AllGive full (partitions_of f p k s) xs → (fault : ItemFault) → IsIn fault (faults (concat xs)) → IsIn fault (met_of tables p)
+  one p told k s fed xs g fault h =
+      let mets = met_of tables p in
+      found_in mets fault (by (faults (concat xs)) h (clear (is_in mets) p told (all_in mets) k s fed xs g))
+    where
+      passes : (b : Bool) → cond {A = ℕ} b 0 1 ≡ 0 → b ≡ true
+      passes true e = refl
+      passes false e = absurd (omega (arith, e))
+
+      by : (gs : List ItemFault) → IsIn fault gs → badly (is_in (met_of tables p)) gs ≡ 0 → is_in (met_of tables p) fault ≡ true
+      by [] h e = absurd h
+      by (g ∷ gs) h e =
+          let t = is_in (met_of tables p) in
+          let a = sum_by-cons (fails t) g gs in
+          let b : fails t g ≡ 0 = omega arith in
+          let c : badly t gs ≡ 0 = omega arith in
+          elim h [
+            | inl q ↦ subst (λ x. t x ≡ true) (sym q) (passes (t g) b)
+            | inr r ↦ by gs r c
+          ]
+
+pub built : (tables : Tables) (files : List ℕ) (n : ℕ) (q : Query) (p : Plan) → has_distincts tables q.body ≡ true → erased p ≡ erased (build q files n) → met_of tables p ≡ all_faults tables q.body
+built tables files n q p e t = query_meets the_phases parts tables files n q p e t
+
+pub trees : (f : Doing) (tables : Tables) → IsEngine f tables the_phases → (test : ItemFault → Bool) (p : Plan) → HasChannels p → IsToldTop tables p → AllPass test (met_of tables p)
+    → (size limit : ℕ) (entries : List Entry) (s : State) (full : ℕ → ℕ → List Item) → IsReached (shape p) size limit (start_of f p limit) entries s → AreFull (shape p) s (deal_of f p) full
+    → (u : ℕ) → Meets test full (form (tree_in s u))
+trees f tables engine test p wide told m size limit entries s full reached wholes u =
+    tasks_meet f tables engine full test p wide told (pass_weigh test (met_of tables p) m) size limit entries s reached wholes u
+
+pub failed : (met : ItemFault → Bool) (named : ℕ → ItemFault → Bool) (size : ℕ) (past : Past (List Cells)) (full : ℕ → ℕ → List Item) (t : Tree)
+    → IsLinked size past t → IsFlow past full t → Meets met full (form t) → LeavesPass named t
+    → (cause : Cause) (after : Reply (List Cells) → Tree) → poll size t ≡ Asks (Fail cause) after → Found met named cause
+failed met named size past full t l w m h cause after e = subst (PollFound met named) e (found met named size past full t l w m h)
+
+pub meant : (f : Doing) (tables : Tables) → IsEngine f tables the_phases → (q : Query) (files : List ℕ) (n : ℕ) (p : Plan)
+    → has_distincts tables q.body ≡ true → erased p ≡ erased (build q files n) → HasChannels p → IsToldTop tables p
+    → (size limit steps : ℕ) (entries : List Entry) (s next : State) (e : Entry) (cause : Cause)
+    → state_replay (shape p) size steps (Some (start_of f p limit)) entries ≡ Some s → state_step (shape p) size steps s e ≡ Some next
+    → e.kind ≡ Failed cause → is_of_fault cause ≡ true → Ends (all_faults tables q.body) (files_of f p 0) cause
+meant f tables engine q files n p d t wide told size limit steps entries s next e cause replay step k of =
+    subst (λ (ms : List ItemFault). Ends ms (files_of f p 0) cause) (built tables files n q p d t)
+    (causes.ends f tables engine p wide told size limit steps entries s next e cause replay step k of)

@@ -1,0 +1,5 @@
+pub mod Sound
+pub mod Rows
+pub mod Known
+pub mod Ordered
+pub mod Engine

@@ -1,0 +1,71 @@
+-- Worked cases of joins, by computing.
+use Rattle.std.proofs.Common.{◌≡◌, refl, ℕ, pos, zero, suc, true, List, [], ◌∷◌, ◌++◌, Some, None, Ok, Err}
+use Rattle.dfx_value.specs.Order.{value_cmp}
+use Rattle.dfx_value.specs.Decimal.{units, at_scale}
+use Rattle.dfx_value.specs.declared.fault.EvalFault.TheVariants.{Overflow, DivideByZero}
+use Rattle.dfx_value.specs.declared.fault.ItemFault.TheVariants.{Evaluation}
+use Rattle.dfx_value.specs.declared.op.JoinKind.TheVariants.{Left, Full}
+use Rattle.dfx_value.specs.declared.value.Value.{Value}
+use Rattle.dfx_value.specs.declared.value.Value.TheVariants.{Null, Bool, Int, Dec}
+use Rattle.scalar_exprs.specs.declared.expr.Expr.{Expr}
+use Rattle.scalar_exprs.specs.Eval.{eval}
+use Rattle.logical_plan.specs.Items.{Cells, Item, rows}
+use Rattle.logical_plan.specs.Joins.{joined}
+use Rattle.whole_contents.specs.Bags.{together}
+use Rattle.join_parts.specs.Joining.{join_items}
+use Rattle.join_parts.specs.Tables.{entered, matches}
+
+abbrev int : ℕ → Value
+int n = Int (pos n)
+
+-- the number at two places behind the point
+abbrev dec : ℕ → Value
+dec n = Dec (at_scale (pos n) 2)
+
+abbrev two : Value → Value → Cells
+two v w = v ∷ w ∷ []
+
+abbrev keys : List (ℕ × ℕ)
+keys = (0, 0) ∷ []
+
+-- a key of another kind, a left row whose pair has a fault, NULL keys, and a row that nothing matches
+abbrev lefts : List Item
+lefts = Ok (two (int 1) (int 4)) ∷ Ok (two Null (int 7)) ∷ Err (Evaluation Overflow) ∷ Ok (two (int 2) (int 6)) ∷ Ok (two (int 3) (int 1)) ∷ []
+
+abbrev rights : List Item
+rights = Ok (two (dec 100) (int 2)) ∷ Ok (two (int 2) (int 0)) ∷ Ok (two Null (int 1)) ∷ Err (Evaluation DivideByZero) ∷ Ok (two (int 1) (int 5)) ∷ []
+
+-- with a test that is true of the first pair, a fault of the second, and unknown of the third
+full : (test : Expr) → eval (two (int 1) (int 4) ++ two (dec 100) (int 2)) test ≡ Ok (Bool true) → eval (two (int 2) (int 6) ++ two (int 2) (int 0)) test ≡ Err Overflow → eval (two (int 1) (int 4) ++ two (int 1) (int 5)) test ≡ Ok Null
+    → join_items Full 2 2 keys (Some test) lefts rights
+    ≡ Ok (two (int 1) (int 4) ++ two (dec 100) (int 2)) ∷ Err (Evaluation Overflow) ∷ Ok (two Null Null ++ two Null (int 1)) ∷ Err (Evaluation DivideByZero) ∷ Ok (two Null Null ++ two (int 1) (int 5))
+    ∷ Ok (two Null (int 7) ++ two Null Null) ∷ Ok (two (int 3) (int 1) ++ two Null Null) ∷ Err (Evaluation Overflow) ∷ []
+unfolding value_cmp units
+full test a b c = rw (a, b, c) refl
+
+-- the table leaves NULL keys out, and finds a key of another kind
+table : entered (0 ∷ []) [] 0 (rows lefts) ≡ (int 1 ∷ [], 0 ∷ []) ∷ (int 2 ∷ [], 2 ∷ []) ∷ (int 3 ∷ [], 3 ∷ []) ∷ []
+unfolding value_cmp units
+table = refl
+
+found : matches keys (rows lefts) (two (dec 100) (int 2)) ≡ 0 ∷ []
+unfolding value_cmp units
+found = refl
+
+none_found : matches keys (rows lefts) (two Null (int 1)) ≡ []
+unfolding value_cmp units
+none_found = refl
+
+-- a row whose match lies in another partition would be padded
+abbrev at : Item → ℕ → ℕ → List Item
+at x zero zero = x ∷ []
+at x (suc n) (suc i) = at x n i
+at x _ _ = []
+
+apart : together 2 (λ i. join_items Left 2 2 keys None (at (Ok (two (int 1) (int 4))) 0 i) (at (Ok (two (int 1) (int 5))) 1 i)) ≡ Ok (two (int 1) (int 4) ++ two Null Null) ∷ []
+unfolding value_cmp units
+apart = refl
+
+one : joined Left 2 2 keys None (Ok (two (int 1) (int 4)) ∷ []) (Ok (two (int 1) (int 5)) ∷ []) ≡ Ok (two (int 1) (int 4) ++ two (int 1) (int 5)) ∷ []
+unfolding value_cmp units
+one = refl
