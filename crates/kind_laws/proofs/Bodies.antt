@@ -53,7 +53,7 @@ table_has (own ∷ kss) (files ∷ tables) h (suc n) ks e = table_has kss tables
 table_has [] (files ∷ tables) h table ks e = absurd h
 table_has (own ∷ kss) [] h table ks e = absurd h
 
-scan_gives : (kss : List (List Kind)) (tables : Tables) → TablesHave kss tables → (table : ℕ) (ks : List Kind) → is_table (slice_get kss table) ks ≡ true → all_are ks (rows (scan tables table)) ≡ true
+pub scan_gives : (kss : List (List Kind)) (tables : Tables) → TablesHave kss tables → (table : ℕ) (ks : List Kind) → is_table (slice_get kss table) ks ≡ true → all_are ks (rows (scan tables table)) ≡ true
 scan_gives kss tables h table ks e = go (slice_get kss table) e (λ own s. table_has kss tables h table own s) where
   go : (o : Option (List Kind)) → is_table o ks ≡ true → ((own : List Kind) → o ≡ Some own → all_are own (rows (scan tables table)) ≡ true) → all_are ks (rows (scan tables table)) ≡ true
   go None e f = absurd (false≢true e)

@@ -1,6 +1,8 @@
 mod Rows
 mod Values
 mod Nodes
-mod Bodies
+pub mod Bodies
 mod Fields
-mod Files
+pub mod Files
+pub mod KindedSteps
+pub mod Worked

@@ -91,7 +91,7 @@ to_first : Split
 to_first j b = (0, b) ∷ []
 
 scan_of : List Item → ℕ → Task
-scan_of file source = record { tree = Files file source (file ∷ []) [] []; header = false; split = Some to_first; batches = 0; parts = []; leaving = false; output = [] }
+scan_of file source = record { tree = Files file (record { source = source; items = file } ∷ []) [] []; header = false; split = Some to_first; batches = 0; parts = []; leaving = false; output = [] }
 
 root : Task
 root = record { tree = Inlet 1 0 [] [] false; header = true; split = None; batches = 0; parts = []; leaving = false; output = [] }
