@@ -11,7 +11,9 @@ ghost use Rattle.logical_plan.specs.Joins.{keys_match, residual, left_pairs, rig
 ghost use Rattle.plan_props.specs.Meets.{Hashing, IsHash, Places};
 ghost use Rattle.physical_plan.specs.Properties.{left_keys, right_keys};
 ghost use Rattle.physical_plan.specs.NodeRows.{Joined};
-ghost use Rattle.node_laws.specs.Nodes.{JoinRow};
+ghost use Rattle.physical_plan.specs.declared.plan.Plan.TheOpen.{Plan-F as Node};
+ghost use Rattle.physical_plan.specs.declared.properties.Declared.{Declared as Said};
+ghost use Rattle.node_laws.specs.Nodes.{JoinRow, NodeGives};
 ghost use Rattle.task_trees.specs.Operators.{Told, with_rows, with_end, with_flush};
 ghost use Rattle.task_trees.specs.OperatorKinds.{is_empty};
 ghost use Rattle.whole_contents.specs.Bags.{SameBag, Alike, together, row_parts};
@@ -29,8 +31,8 @@ ghost use Rattle.join_parts.specs.States.{Join, op_of, JoinState, at_start, acce
 /// in the partition of the hash of its keys (`placed`), and where there is one partition
 /// (`single`).
 ///
-/// The rows of each partition are those of a join's node (`rows`), and of the kinds of its columns
-/// (`kinds`).
+/// The rows of each partition are those of a join's node (`rows`, `node`), and of the kinds of its
+/// columns (`kinds`).
 pub fn join_law()
     ensures one { (kind : Kept) (left_width right_width : ℕ) (keys : List (ℕ × ℕ)) (rest : Option Expr)
         (ls rs : List Item)
@@ -65,6 +67,10 @@ pub fn join_law()
         (n : ℕ) (lefts rights : ℕ → List Item)
         → Joined (JoinRow kind keys left_width right_width) (row_parts n lefts) (row_parts n rights)
         (row_parts n (λ i. join_items kind left_width right_width keys rest (lefts i) (rights i))) }
+    ensures node { (h : Hashing) (left right : Said) (kind : Kept) (keys : List (ℕ × ℕ)) (rest : Option Expr)
+        (n : ℕ) (lefts rights : ℕ → List Item)
+        → NodeGives h (Node.HashJoin kind (left, row_parts n lefts) (right, row_parts n rights) keys rest)
+        (row_parts n (λ i. join_items kind left.width right.width keys rest (lefts i) (rights i))) }
     ensures kinds { (kind : Kept) (left right : List Kind) (keys : List (ℕ × ℕ)) (rest : Option Expr)
         (ls rs : List Item)
         → AllPass (are_of left) (rows ls) → AllPass (are_of right) (rows rs)

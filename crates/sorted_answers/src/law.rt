@@ -7,15 +7,19 @@ ghost use Rattle.logical_plan.specs.Items.{Item, Cells, rows, faults, of_rows, c
 ghost use Rattle.logical_plan.specs.Body.{Tables, body};
 ghost use Rattle.logical_plan.specs.Allowed.{first_of, Allows, Allowed};
 ghost use Rattle.logical_plan.specs.declared.query.Query.{Query};
-ghost use Rattle.plan_props.specs.Meets.{InOrder, part};
+ghost use Rattle.plan_props.specs.Meets.{Hashing, InOrder, part};
 ghost use Rattle.physical_plan.specs.NodeRows.{Arranged};
+ghost use Rattle.physical_plan.specs.declared.plan.Plan.TheOpen.{Plan-F as Node};
+ghost use Rattle.physical_plan.specs.declared.properties.Declared.{Declared as Said};
+ghost use Rattle.node_laws.specs.Nodes.{NodeGives};
+ghost use Rattle.node_laws.specs.Rows.{IsStretch};
 ghost use Rattle.node_laws.specs.Weaves.{Merges};
 ghost use Rattle.run_histories.specs.Histories.{Past};
 ghost use Rattle.task_trees.specs.Operators.{Told, Reads};
 ghost use Rattle.task_trees.specs.OperatorKinds.{cut, end_op, limit_op, merge};
 ghost use Rattle.task_trees.specs.Trees.{Tree, Ends, Desk, Node as Over, gave_of, poll};
 ghost use Rattle.task_trees.specs.Linked.{whole, IsLinked, IsWhole};
-ghost use Rattle.whole_contents.specs.Bags.{SameBag, together, Alike};
+ghost use Rattle.whole_contents.specs.Bags.{SameBag, together, Alike, row_parts};
 ghost use Rattle.sorted_answers.specs.Sorting.{sorted, sort_rows, item_before, sort_items, merge_items, run, AreSorted, IsLeastFront};
 ghost use Rattle.sorted_answers.specs.Growing.{grown, GoesOn, after};
 ghost use Rattle.sorted_answers.specs.Arranging.{IsArrangedAs};
@@ -97,16 +101,27 @@ pub fn merge_law()
 {}
 
 /// What a limit cuts of items: where no fault is among the first items, the rows of those after the
-/// skipped ones (`clean`); of any items so many of their rows after so many (`stretch`); and
+/// skipped ones (`clean`); of any items a stretch of their rows (`stretch`); and
 /// nothing but items of its input (`keeps`).
 pub fn limit_law()
     ensures clean { (skip : ℕ) (fetch : Option ℕ) (items : List Item)
         → faults (first_of skip fetch items) ≡ []
         → rows (cut skip fetch items) ≡ drop skip (rows (first_of skip fetch items)) }
     ensures stretch { (skip : ℕ) (fetch : Option ℕ) (items : List Item)
-        → (k m : ℕ) × (rows (cut skip fetch items) ≡ take m (drop k (rows items))) }
+        → IsStretch (rows items) (rows (cut skip fetch items)) }
     ensures keeps { (skip : ℕ) (fetch : Option ℕ) (test : Item → Bool) (items : List Item)
         → AllPass test items → AllPass test (cut skip fetch items) }
+{}
+
+/// What sorts, merges and limits give of the items of each partition is, in its rows, what their
+/// nodes give of the rows.
+pub fn nodes_law()
+    ensures sorts { (h : Hashing) (d : Said) (keys : List Key) (n : ℕ) (inputs : ℕ → List Item)
+        → NodeGives h (Node.Sort (d, row_parts n inputs) keys) (row_parts n (λ i. sort_items keys (inputs i))) }
+    ensures merges { (h : Hashing) (d : Said) (keys : List Key) (n : ℕ) (inputs : ℕ → List Item)
+        → NodeGives h (Node.Merge (d, row_parts n inputs) keys) (row_parts 1 (λ i. merge_items keys n inputs)) }
+    ensures limits { (h : Hashing) (d : Said) (skip : ℕ) (fetch : Option ℕ) (n : ℕ) (inputs : ℕ → List Item)
+        → NodeGives h (Node.Limit (d, row_parts n inputs) skip fetch) (row_parts n (λ i. cut skip fetch (inputs i))) }
 {}
 
 /// Lists of one bag are permutations of each other (`items`, `rows`). Lists with the same rows and

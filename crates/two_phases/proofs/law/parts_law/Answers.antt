@@ -1,4 +1,5 @@
-use Rattle.two_phases.proofs.Further.{segments_are, partitions, gathered, needed}
+use Rattle.two_phases.proofs.Segments.{segments_are, partitions}
+use Rattle.two_phases.proofs.Gathered.{gathered, needed}
 use Rattle.two_phases.proofs.law.parts_law.Goals as goal
 
 pub returns-clause-segments : goal.returns-clause-segments
