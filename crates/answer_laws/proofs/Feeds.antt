@@ -32,8 +32,7 @@ use Rattle.plan_tasks.specs.Reading.{AreOperators}
 use Rattle.plan_tasks.specs.Placed.{tasks_before, deal_by, deal_of, consumers_before, IsHashing, HasChannels}
 use Rattle.plan_tasks.proofs.Begun.{is_start}
 use Rattle.plan_tasks.proofs.Placed.{placed, stage_is, feeds, sender_of}
-use Rattle.plan_tasks.proofs.Lone.{lone_sender}
-use Rattle.plan_tasks.proofs.Senders.{are_senders, deal_is, only_sender}
+use Rattle.plan_tasks.proofs.Senders.{are_senders, deal_is, only_sender, lone_sender}
 use Rattle.answer_laws.specs.Gives.{channels, Gives, AllGive}
 use Rattle.answer_laws.specs.Fed.{IsFed, AllFed}
 
@@ -153,10 +152,10 @@ module _ (f : Doing) (are : AreOperators f) (hashing : IsHashing f) (p : Plan) (
             ap (full t.stage) (zero-add i) ∙ q ∙ ap (given_by before) (sym (zero-add i))));
         ordered = λ one c l. (
             let z : n ≡ 1 = sym m ∙ one in
-            let o = lone_sender f are p before after t e l0 z in
+            let o = lone_sender f are p before after t e l0 z 0 (omega arith) in
             let i : c < width (shape p) t.stage = (let y : width_by t.way (length xs) ≡ width_by t.way n = ap (width_by t.way) m in omega arith) in
-            let q = sent_in_order (shape p) (is_shape p) size limit start s entries (is_start f are p size limit) reached (deal_of f p) (are_senders f are hashing p wide) full wholes (tasks_before f before) t.stage o c i in
-            subst (IsSubsequence (full t.stage c)) (sym (ap (λ (x : ℕ). concat (map (given_by before) (numbers x))) z ∙ append-nil (given_by before 0) ∙ ap (λ (u : ℕ). whole full (tree_in s u)) (add-zero (tasks_before f before)))) q);
+            let q = sent_in_order (shape p) (is_shape p) size limit start s entries (is_start f are p size limit) reached (deal_of f p) (are_senders f are hashing p wide) full wholes (tasks_before f before + 0) t.stage o c i in
+            subst (IsSubsequence (full t.stage c)) (sym (ap (λ (x : ℕ). concat (map (given_by before) (numbers x))) z ∙ append-nil (given_by before 0))) q);
         hashed = λ columns k w c h. passed_at (shape p) (is_shape p) size limit start s entries (is_start f are p size limit) reached (deal_of f p) (are_senders f are hashing p wide) full wholes
             (is_at (f.channel columns k) c) t.stage c (let z : width_by t.way n ≡ k = ap (λ (y : Way). width_by y n) w in omega arith)
             (λ u split g q. (

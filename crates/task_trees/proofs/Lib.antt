@@ -13,3 +13,5 @@ pub mod Worked
 pub mod Kept
 pub mod Batches
 pub mod Subtrees
+pub mod Held
+pub mod Exits

@@ -1,3 +1,6 @@
+pub mod Identity
+pub mod Weights
+pub mod Items
 pub mod Bags
 pub mod Orders
 pub mod Flows

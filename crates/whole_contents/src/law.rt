@@ -19,8 +19,9 @@ ghost use Rattle.whole_contents.specs.Whole.{past_in, tree_in, AreFull, given_we
 
 /// In each state that entries reach from the start of a run of tasks, its channels have whole contents (`exist`).
 ///
-/// Of these is read what each task took (`flow`); so what its tree gave is a front of what it would give of whole channels, and all
-/// of it where it ends (`whole`), and so it is of each tree in it, that is, of what each operator gave (`fronts`).
+/// Of these is read what each task took (`flow`); so what its tree gave is a front of what it would give of whole
+/// channels, and all of it where it ends (`whole`), and so it is of each tree in it, that is, of what each operator
+/// gave (`fronts`).
 pub fn full_law()
     ensures exist { (p : Shape) (size limit : ℕ) (start s : State) (entries : List Entry) (deal : ℕ → Deal)
         → IsShape p → IsStart p size limit start → IsReached p size limit start entries s
@@ -36,11 +37,13 @@ pub fn full_law()
         → AreFull p s deal full → (t : ℕ) (x : Tree) → IsSubtree x (tree_in s t) → IsWhole size full x }
 {}
 
-/// The channels of a group share what its senders would give: of each weight of items, their whole contents have together what
-/// the senders' trees would give of whole channels (`exchanged`), so both are the same bag (`shared`).
+/// The channels of a group share what its senders would give: of each weight of items, their whole contents have
+/// together what the senders' trees would give of whole channels (`exchanged`), so both are the same bag
+/// (`shared`).
 ///
-/// A channel with one sender that sends all there has what that task would give, in order (`single`). Where one task alone sends to a
-/// group, in order, each of its channels has some of what that task would give, in its order (`ordered`).
+/// A channel with one sender that sends all there has what that task would give, in order (`single`). Where one
+/// task alone sends to a group, in order, each of its channels has some of what that task would give, in its order
+/// (`ordered`).
 pub fn exchange_law()
     ensures exchanged { (p : Shape) (size limit : ℕ) (start s : State) (entries : List Entry) (deal : ℕ → Deal) (full : ℕ → ℕ → List Item)
         → IsShape p → IsStart p size limit start → IsReached p size limit start entries s → AreSenders p start.tasks deal
@@ -83,11 +86,11 @@ pub fn test_law()
         → (test : Item → Bool) (u : ℕ) → AllPass test (whole full (tree_in s u)) → AllPass test (of_rows (gave_of (tree_in s u))) }
 {}
 
-/// Two kinds of senders owe what a sender has to: those whose batches go whole to one channel each, by their number (`batches`),
-/// where what they would still give goes to any one of their targets; and those that send each row to the channel of its number
-/// (`rows`), so that a channel gets only rows of its own number (`numbered`). What they send to a channel stands in the order in which
-/// it is given (`batches_in_order`, `rows_in_order`). Neither sends an empty part of a batch that has rows (`batches_have_rows`,
-/// `rows_have_rows`).
+/// Two kinds of senders owe what a sender has to: those whose batches go whole to one channel each, by their number
+/// (`batches`), where what they would still give goes to any one of their targets; and those that send each row to
+/// the channel of its number (`rows`), so that a channel gets only rows of its own number (`numbered`). What they
+/// send to a channel stands in the order in which it is given (`batches_in_order`, `rows_in_order`). Neither sends
+/// an empty part of a batch that has rows (`batches_have_rows`, `rows_have_rows`).
 pub fn senders_law()
     ensures batches { (p : Shape) (u g : ℕ) (to : ℕ → ℕ) (home : ℕ) → has (task_at p u).targets home ≡ true → home < width p g
         → IsSender p u g (whole_split to) (home_deal home) }
@@ -108,8 +111,8 @@ pub fn bag_law()
     ensures passes { (test : Item → Bool) (xs ys : List Item) → SameBag xs ys → AllPass test xs → AllPass test ys }
 {}
 
-/// Where no part that tasks sent, or were refused, is empty, no batch is that was taken from a channel (`took`), or that is left in a
-/// live one (`left`).
+/// Where no part that tasks sent, or were refused, is empty, no batch is that was taken from a channel (`took`), or
+/// that is left in a live one (`left`).
 pub fn received_law()
     ensures took { (p : Shape) (size limit : ℕ) (start s : State) (entries : List Entry)
         → IsShape p → IsReached p size limit start entries s → ((u : ℕ) → AllHaveRows (handled (past_in s u)))
