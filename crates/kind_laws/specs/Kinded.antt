@@ -1,5 +1,6 @@
 -- Meaning: bodies of queries that are well-kinded over tables whose columns have these kinds.
-use Rattle.std.specs.Prelude.{ℕ, Bool, true, false, ◌&&◌, nat_lt, Option, Some, None, is_some, List, [], ◌∷◌, ◌++◌, length, slice_get}
+use Rattle.std.specs.Prelude.{ℕ, Bool, true, false, ◌&&◌, nat_lt, Option, Some, None, is_some}
+use Rattle.std.specs.Prelude.{List, [], ◌∷◌, ◌++◌, length, slice_get}
 use Rattle.std.specs.List.{list_all}
 use Rattle.dfx_value.specs.Kinds.{are_kinds}
 use Rattle.dfx_value.specs.declared.kind.Kind.{Kind}

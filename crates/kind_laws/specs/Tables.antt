@@ -1,5 +1,6 @@
 -- Meaning: tables whose rows are of their columns' kinds, and whose faults name their table and their file.
-use Rattle.std.specs.Prelude.{ℕ, ◌≡◌, ◌==◌, ⊤, Bool, true, false, ◌&&◌, List, [], ◌∷◌, length, map, slice_get, slice_index_or, unwrap_or}
+use Rattle.std.specs.Prelude.{ℕ, ◌≡◌, ◌==◌, ⊤, Bool, true, false, ◌&&◌}
+use Rattle.std.specs.Prelude.{List, [], ◌∷◌, length, map, slice_get, slice_index_or, unwrap_or}
 use Rattle.std.specs.List.{AllPass}
 use Rattle.dfx_value.specs.KindedRows.{all_are}
 use Rattle.dfx_value.specs.declared.fault.ItemFault.{ItemFault}
