@@ -1,5 +1,5 @@
 -- What holds at every node once sorts are put in and dropped.
-use Rattle.std.proofs.Common.{ℕ, ◌≡◌, ◌≢◌, refl, ap, ◌∙◌, eqb, true, false, not}
+use Rattle.std.proofs.Common.{ℕ, ◌≡◌, refl, ap, ◌∙◌, eqb, true, not}
 use Rattle.std.proofs.lemmas.Bool.{false≢true}
 use Rattle.plan_props.specs.Satisfies.{satisfies_distribution}
 use Rattle.plan_props.specs.declared.properties.Partitioning.{Partitioning}

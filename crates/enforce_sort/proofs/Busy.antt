@@ -1,5 +1,5 @@
 -- Hash exchanges still have work once sorts are enforced.
-use Rattle.std.proofs.Common.{ℕ, ◌≡◌, ◌≢◌, refl, sym, ap, ◌∙◌, subst, cond, Bool, true, false, ◌&&◌, not, List, [], ◌∷◌, map}
+use Rattle.std.proofs.Common.{ℕ, ◌≡◌, refl, sym, ap, ◌∙◌, subst, cond, Bool, true, false, ◌&&◌, not, List, [], ◌∷◌, map}
 use Rattle.std.proofs.lemmas.Bool.{false≢true}
 use Rattle.dfx_value.specs.declared.rows.SortKey.{SortKey}
 use Rattle.plan_props.specs.Satisfies.{satisfies_distribution, satisfies_order}

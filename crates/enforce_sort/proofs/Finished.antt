@@ -1,19 +1,20 @@
 -- A plain plan with its exchanges and its sorts is finished.
 use Rattle.std.specs.Prelude.{nat_lt, is_some}
-use Rattle.std.proofs.Common.{ℕ, ◌≡◌, refl, ap, ◌∙◌, cond, eqb, Option, Bool, true, false, ◌||◌, List, [], ◌∷◌, map}
+use Rattle.std.proofs.Common.{ℕ, ◌≡◌, refl, sym, ap, ◌∙◌, subst, cond, eqb, Option, Bool, true, false, ◌||◌, List, [], ◌∷◌, map}
 use Rattle.std.proofs.lemmas.Bool.{false≢true, eq-eqb}
 use Rattle.dfx_value.specs.declared.rows.SortKey.{SortKey}
 use Rattle.plan_props.specs.Satisfies.{satisfies_order}
 use Rattle.plan_props.specs.declared.properties.Props.{Props}
 use Rattle.plan_props.specs.declared.properties.Distribution.TheVariants as need
 use Rattle.physical_plan.specs.declared.properties.Declared.{Declared}
-use Rattle.physical_plan.specs.declared.plan.Plan.{Plan}
+use Rattle.physical_plan.specs.declared.plan.Plan.{Plan, out-Plan}
 use Rattle.physical_plan.specs.declared.plan.Plan.TheOpen.{Plan-F}
+use Rattle.physical_plan.specs.declared.plan.Plan.TheViews.{roll-Plan, roll-out-Plan}
 use Rattle.physical_plan.specs.declared.plan.Plan.TheFolds.{map-Plan}
 use Rattle.physical_plan.specs.declared.plan.Plan.TheVariants.{Sort, Merge, Limit, outs-Sort, outs-Limit}
 use Rattle.physical_plan.specs.Properties.{props, partitions, parts}
-use Rattle.physical_plan.specs.Planned.{everywhere, all_true, kids, spread_needs, order_needs, limited_order, have_parts, lean, busy_inputs, on_scans, IsFinished}
-use Rattle.physical_plan.specs.Plain.{plain_node, plain_child, plain, IsPlain, no_limit, lone, IsBody, sorted_by, limited}
+use Rattle.physical_plan.specs.Planned.{everywhere, all_true, kids, spread_needs, order_needs, limited_order, no_limit, LimitAtRoot, have_parts, lean, busy_inputs, on_scans, IsFinished}
+use Rattle.physical_plan.specs.Plain.{plain_node, plain_child, plain, IsPlain, lone, IsBody, sorted_by, limited}
 use Rattle.physical_plan.proofs.Nodes.{declared-Sort, declared-Merge, declared-Limit}
 use Rattle.physical_plan.proofs.Everywhere.{both_true, and_parts, holds-Sort, holds-Limit}
 use Rattle.physical_plan.proofs.Weaker.{weaker}
@@ -29,6 +30,7 @@ use Rattle.enforce_sort.proofs.Sorting.{stays, Arranges, arranges, order_itself,
 use Rattle.enforce_sort.proofs.Arranged.{needs_arrange, orders_arrange, lean_arrange, scans_arrange}
 use Rattle.enforce_sort.proofs.Busy.{works, busy_arrange}
 use Rattle.enforce_sort.proofs.Robins.{found_stays}
+use Rattle.enforce_sort.proofs.Limits.{no_top}
 
 -- ---- limits
 
@@ -98,10 +100,22 @@ top_order b k ks = go (eqb (partitions (Sort b (k ∷ ks))) 1)
 abbrev finish : ℕ → Plan → Plan
 finish n p = enforce_sorting (enforce_distribution p n)
 
+-- no limit comes in
+none_inside : (n : ℕ) (p : Plan) → everywhere lone p ≡ true → plain_child p ≡ true → everywhere no_limit (finish n p) ≡ true
+none_inside n p all top = arranges no_limit no_limit unlimited_arrange (enforce_distribution p n) (held n lone no_limit (unlimited_spread n) p all top)
+
 unlimited : (n : ℕ) (order : List SortKey) (p : Plan) → everywhere lone p ≡ true → plain_child p ≡ true → everywhere (limited_order order) (finish n p) ≡ true
-unlimited n order p all top =
-    weaker no_limit (limited_order order) (ordered_unlimited order) (finish n p)
-    (arranges no_limit no_limit unlimited_arrange (enforce_distribution p n) (held n lone no_limit (unlimited_spread n) p all top))
+unlimited n order p all top = weaker no_limit (limited_order order) (ordered_unlimited order) (finish n p) (none_inside n p all top)
+
+-- a plan without a limit has none on top
+no_limit_top : (z : Plan-F Plan) (q : Plan) → everywhere no_limit (roll-Plan z) ≡ true → everywhere no_limit q ≡ true → LimitAtRoot z q
+no_limit_top (Plan-F.Limit x skip fetch) q e h = absurd (false≢true (no_top (Plan-F.Limit x skip fetch) e))
+no_limit_top _ q e h = h
+
+unlimited_top : (n : ℕ) (p : Plan) → everywhere lone p ≡ true → plain_child p ≡ true → LimitAtRoot (out-Plan p) (finish n p)
+unlimited_top n p all top =
+    let e = weaker lone no_limit (λ z t. (and_parts (no_limit z) (plain z) t).0) p all in
+    no_limit_top (out-Plan p) (finish n p) (ap (everywhere no_limit) (roll-out-Plan p) ∙ e) (none_inside n p all top)
 
 -- ---- a plan below its limit
 
@@ -122,6 +136,7 @@ record Finished (n : ℕ) (order : List SortKey) (p : Plan) : Type 0 where
   plain_plan : IsPlain p
   root : satisfies_order (props (finish n p)) order ≡ true
   limits : everywhere (limited_order order) (finish n p) ≡ true
+  limit_top : LimitAtRoot (out-Plan p) (finish n p)
 
 -- what a limit on top becomes
 limit_finish : (n : ℕ) (p : Plan) (skip : ℕ) (fetch : Option ℕ) → finish n (Limit p skip fetch) ≡ Limit (finish n p) skip fetch
@@ -144,11 +159,13 @@ finished n order skip fetch p t = go (is_some fetch || nat_lt 0 skip)
       plain_plan = record { everywhere_plain = weaker lone plain lone_plain p t.all; top_plain = t.top };
       root = t.order_ok;
       limits = unlimited n order p t.all t.top;
+      limit_top = unlimited_top n p t.all t.top;
     }
     go true = record {
       plain_plan = record { everywhere_plain = holds-Limit plain p skip fetch (both_true _ _ t.top refl) (weaker lone plain lone_plain p t.all); top_plain = ap plain_node (outs-Limit p skip fetch) };
       root = ap (λ (q : Plan). satisfies_order (props q) order) (limit_finish n p skip fetch) ∙ ap (λ (d : Declared). satisfies_order d.props order) (declared-Limit (finish n p) skip fetch) ∙ t.order_ok;
       limits = ap (everywhere (limited_order order)) (limit_finish n p skip fetch) ∙ holds-Limit (limited_order order) (finish n p) skip fetch t.order_ok (unlimited n order p t.all t.top);
+      limit_top = subst (λ (z : Plan-F Plan). LimitAtRoot z (finish n (Limit p skip fetch))) (sym (outs-Limit p skip fetch)) (finish n p, limit_finish n p skip fetch, none_inside n p t.all t.top);
     }
 
 together : (n : ℕ) (order : List SortKey) (p : Plan) → Finished n order p → IsSpread p n (enforce_distribution p n) → IsFinished p order n (finish n p)
@@ -159,6 +176,7 @@ together n order p f s = record {
   root_single = parts_like (finish n p) (enforce_distribution p n) (like (enforce_distribution p n)) ∙ s.root_single;
   root_order = f.root;
   limit_order = f.limits;
+  limit_top = f.limit_top;
   parts = weaker (spread_needs n) (have_parts n) (counted n) (finish n p) needs;
   lean_nodes = arranges (lean_exchanges n) (lean n) (lean_arrange n) (enforce_distribution p n) s.lean_nodes;
   busy_nodes = arranges (busy_inputs n) (busy_inputs n) (busy_arrange n) (enforce_distribution p n) s.busy_nodes;

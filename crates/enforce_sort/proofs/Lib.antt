@@ -5,3 +5,4 @@ pub mod Arranged
 pub mod Busy
 pub mod Robins
 pub mod Finished
+pub mod Limits

@@ -1,5 +1,5 @@
 -- Sorts move no exchange.
-use Rattle.std.proofs.Common.{◌≡◌, ◌≢◌, ◌+◌, refl, sym, ap, ◌∙◌, subst, cond, Bool, true, false, List, [], ◌∷◌, ◌++◌, map}
+use Rattle.std.proofs.Common.{◌≡◌, refl, sym, ap, ◌∙◌, subst, cond, Bool, true, false, List, [], ◌∷◌, ◌++◌, map}
 use Rattle.std.proofs.lemmas.Bool.{false≢true}
 use Rattle.dfx_value.specs.declared.rows.SortKey.{SortKey}
 use Rattle.plan_props.specs.Satisfies.{satisfies_order}

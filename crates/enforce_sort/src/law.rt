@@ -1,9 +1,10 @@
-ghost use Rattle.std.specs.Prelude.{ℕ, List, Option};
+ghost use Rattle.std.specs.Prelude.{ℕ, ◌≡◌, ◌||◌, true, false, nat_lt, is_some, List, Option};
 ghost use Rattle.dfx_value.specs.declared.rows.SortKey.{SortKey as Key};
 ghost use Rattle.logical_plan.specs.declared.query.Query.{Query as AQuery};
 ghost use Rattle.physical_plan.specs.declared.plan.Plan.{Plan as APlan};
+ghost use Rattle.physical_plan.specs.declared.plan.Plan.TheVariants.{Limit as ALimit};
 ghost use Rattle.physical_plan.specs.Plain.{IsBody, sorted_by, limited};
-ghost use Rattle.physical_plan.specs.Planned.{IsFinished};
+ghost use Rattle.physical_plan.specs.Planned.{IsFinished, everywhere, no_limit};
 ghost use Rattle.physical_build.specs.Build.{build};
 ghost use Rattle.physical_build.specs.Planned.{IsPlanned};
 ghost use Rattle.enforce_dist.specs.Distribute.{enforce_distribution};
@@ -15,6 +16,15 @@ pub fn finished_law()
     ensures { (body : APlan) (order : List Key) (skip : ℕ) (fetch : Option ℕ) (n : ℕ) → IsBody body
         → IsFinished (limited skip fetch (sorted_by order body)) order n
         (enforce_sorting (enforce_distribution (limited skip fetch (sorted_by order body)) n)) }
+{}
+
+/// Where a query has a limit or skips rows, its plan is that limit over a plan without one, and else it is without one.
+pub fn limit_law()
+    ensures on_top { (q : AQuery) (files : List ℕ) (p : APlan) (n : ℕ) → IsPlanned q files p n
+        → is_some q.limit || nat_lt 0 q.offset ≡ true
+        → (r : APlan) × (p ≡ ALimit r q.offset q.limit) × (everywhere no_limit r ≡ true) }
+    ensures without { (q : AQuery) (files : List ℕ) (p : APlan) (n : ℕ) → IsPlanned q files p n
+        → is_some q.limit || nat_lt 0 q.offset ≡ false → everywhere no_limit p ≡ true }
 {}
 
 /// What `build`, then the enforcement of distribution and then that of sorting give for a query is a finished plan of it.

@@ -5,4 +5,4 @@ mod arrange;
 mod law;
 
 pub use arrange::enforce_sorting;
-pub use law::{finished_law, planned_law};
+pub use law::{finished_law, limit_law, planned_law};

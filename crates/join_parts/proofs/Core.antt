@@ -9,7 +9,7 @@ use Rattle.logical_plan.specs.Items.{Cells, Item, rows, faults, of_faults}
 use Rattle.logical_plan.specs.Joins.{paired, left_pairs, right_pairs, pairs, nulls, alone, left_alone, right_alone, keeps_left, keeps_right, when, joined}
 use Rattle.whole_contents.specs.Bags.{SameBag}
 use Rattle.join_parts.specs.Joining.{probe, join_items}
-use Rattle.join_parts.proofs.Sums.{sum_same, sum-flat_map, sum_swap, sum_by-map}
+use Rattle.whole_contents.proofs.Weights.{sum_same, sum-flat_map, sum_swap, sum_by-map}
 use Rattle.join_parts.proofs.Sides.{side_bag, side_apart, Nothing, nothing_turned, alone_bag, when_weigh, when_apart, when_none}
 
 module _ (w : Item → ℕ) (kind : JoinKind) (left_width right_width : ℕ) (keys : List (ℕ × ℕ)) (rest : Option Expr) where

@@ -10,8 +10,9 @@ use Rattle.logical_plan.specs.Joins.{keys_match, paired, residual, keeps_left, k
 use Rattle.plan_props.specs.Meets.{Each}
 use Rattle.whole_contents.specs.Bags.{SameBag, Alike, together}
 use Rattle.join_parts.specs.Joining.{join_items, AreMatched}
-use Rattle.join_parts.proofs.Items.{rows-append, faults-append, faults_weigh, bag_faults, alike_rows, alike_faults, fails, pass_weigh, pass_from, each-append, each_more, each_all}
-use Rattle.join_parts.proofs.Items as items
+use Rattle.whole_contents.proofs.Bags.{fails, none_fails, all_pass}
+use Rattle.whole_contents.proofs.Items.{rows-append, faults-append, fault_weight, faults_weigh, bag_faults, alike_rows, alike_weigh}
+use Rattle.join_parts.proofs.Items.{each-append, each_more, each_all}
 use Rattle.join_parts.proofs.Sides.{Nothing, when_none}
 use Rattle.join_parts.proofs.Core.{weight, joined_weighs, one_join, weight_bag, weight_apart}
 
@@ -104,7 +105,7 @@ pub parts_alike : (kind : JoinKind) (left_width right_width : ℕ) (keys : List 
     → Alike (together n (λ i. join_items kind left_width right_width keys rest (lefts i) (rights i))) (joined kind left_width right_width keys rest ls rs)
 parts_alike kind left_width right_width keys rest ls rs n lefts rights h k matched = λ w alike.
     parts_join keys rest w kind left_width right_width ls rs n lefts rights (alike_rows (together n lefts) ls h) (alike_rows (together n rights) rs k) matched
-    (alike_faults (together n lefts) ls h (λ f. w (Err f)) alike) (alike_faults (together n rights) rs k (λ f. w (Err f)) alike)
+    (alike_weigh (together n lefts) ls h (λ f. w (Err f)) alike) (alike_weigh (together n rights) rs k (λ f. w (Err f)) alike)
 
 pub parts_same : (kind : JoinKind) (left_width right_width : ℕ) (keys : List (ℕ × ℕ)) (rest : Option Expr) (ls rs : List Item) (n : ℕ) (lefts rights : ℕ → List Item)
     → SameBag (together n lefts) ls → SameBag (together n rights) rs → AreMatched keys n lefts rights
@@ -120,13 +121,13 @@ pub parts_faults : (kind : JoinKind) (left_width right_width : ℕ) (keys : List
 parts_faults kind left_width right_width keys rest ls rs n lefts rights test h k matched a b c =
     let given : List Item = together n (λ i. join_items kind left_width right_width keys rest (lefts i) (rights i)) in
     let meant : List Item = joined kind left_width right_width keys rest ls rs in
-    let w : Item → ℕ = items.fault_weight (fails test) in
+    let w : Item → ℕ = fault_weight (fails test) in
     let d : sum_by (fails test) (faults given) ≡ sum_by w given = faults_weigh (fails test) given in
     let e : sum_by w given ≡ (sum_by (fails test) (faults (together n lefts)) + sum_by (fails test) (faults (together n rights))) + weight w kind left_width right_width keys rest (rows ls) (rows rs)
     = all_weigh keys rest w kind left_width right_width ls rs n lefts rights (alike_rows (together n lefts) ls h) (alike_rows (together n rights) rs k) matched in
-    let f : sum_by (fails test) (faults (together n lefts)) ≡ 0 = pass_weigh test (faults (together n lefts)) a in
-    let g : sum_by (fails test) (faults (together n rights)) ≡ 0 = pass_weigh test (faults (together n rights)) b in
+    let f : sum_by (fails test) (faults (together n lefts)) ≡ 0 = none_fails test (faults (together n lefts)) a in
+    let g : sum_by (fails test) (faults (together n rights)) ≡ 0 = none_fails test (faults (together n rights)) b in
     let i : sum_by w meant ≡ (sum_by (fails test) (faults ls) + sum_by (fails test) (faults rs)) + weight w kind left_width right_width keys rest (rows ls) (rows rs) = joined_weighs w kind left_width right_width keys rest ls rs in
-    let j : sum_by w meant ≡ 0 = sym (faults_weigh (fails test) meant) ∙ pass_weigh test (faults meant) c in
+    let j : sum_by w meant ≡ 0 = sym (faults_weigh (fails test) meant) ∙ none_fails test (faults meant) c in
     let z : sum_by (fails test) (faults given) ≡ 0 = omega arith in
-    pass_from test (faults given) z
+    all_pass test (faults given) z

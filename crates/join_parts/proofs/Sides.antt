@@ -1,14 +1,14 @@
 -- What each row of one side gives with all rows of the other.
-use Rattle.std.proofs.Common.{ℕ, ◌+◌, ◌≡◌, refl, sym, ap, ◌∙◌, List, [], ◌∷◌, ◌++◌, Bool, true, false, arith}
+use Rattle.std.proofs.Common.{ℕ, ◌+◌, ◌≡◌, refl, sym, ap, ◌∙◌, List, [], ◌∷◌, ◌++◌, Bool, true, false}
 use Rattle.std.specs.List.{sum_by, flat_map}
 use Rattle.std.proofs.lemmas.List.{append-nil}
 use Rattle.std.proofs.lemmas.List.Concat.{flat_map-append}
-use Rattle.std.proofs.lemmas.List.Sums.{sum_by-cons, sum_by-append}
+use Rattle.std.proofs.lemmas.List.Sums.{sum_by-append}
 use Rattle.logical_plan.specs.Items.{Cells, Item}
 use Rattle.logical_plan.specs.Joins.{alone, when}
 use Rattle.plan_props.specs.Meets.{Each}
 use Rattle.whole_contents.specs.Bags.{SameBag}
-use Rattle.join_parts.proofs.Sums.{sum_same, sum-flat_map, bag-flat_map}
+use Rattle.whole_contents.proofs.Weights.{sum_same, sum-flat_map, bag-flat_map, none_left}
 
 -- of each row, something of it and of what it has with all rows of the other side
 abbrev pub side : (Cells → Cells → List Item) → (Cells → List Item → List Item) → List Cells → List Cells → List Item
@@ -64,15 +64,12 @@ nothing_turned p ls (r ∷ rs) h = (heads ls h, nothing_turned p ls rs (tails ls
 
 -- ---- padded rows
 
-weigh_one : {A : Type 0} (x : A) (xs : List A) → sum_by (λ _. 1) (x ∷ xs) ≡ 0 → ⊥
-weigh_one x xs e = let a : sum_by (λ _. 1) (x ∷ xs) ≡ 1 + sum_by (λ _. 1) xs = sum_by-cons (λ _. 1) x xs in omega arith
-
 -- whether anything is found doesn't hang on the order
 pub alone_bag : (padded : Cells) (xs ys : List Item) → SameBag xs ys → alone padded xs ≡ alone padded ys
 alone_bag padded [] [] h = refl
 alone_bag padded (x ∷ xs) (y ∷ ys) h = refl
-alone_bag padded [] (y ∷ ys) h = absurd (weigh_one y ys (sym (h (λ _. 1))))
-alone_bag padded (x ∷ xs) [] h = absurd (weigh_one x xs (h (λ _. 1)))
+alone_bag padded [] (y ∷ ys) h = none_left y ys h
+alone_bag padded (x ∷ xs) [] h = none_left x xs (λ w. sym (h w))
 
 pub when_weigh : (w : Item → ℕ) (b : Bool) (xs ys : List Item) → sum_by w xs ≡ sum_by w ys → sum_by w (when b xs) ≡ sum_by w (when b ys)
 when_weigh w true xs ys e = e

@@ -1,5 +1,5 @@
 -- Worked cases of joins, by computing.
-use Rattle.std.proofs.Common.{◌≡◌, refl, ℕ, pos, zero, suc, true, List, [], ◌∷◌, ◌++◌, Some, None, Ok, Err}
+use Rattle.std.proofs.Common.{◌≡◌, refl, arith, ◌+◌, ◌<◌, ℕ, pos, zero, suc, true, false, List, [], ◌∷◌, ◌++◌, Some, None, Ok, Err}
 use Rattle.dfx_value.specs.Order.{value_cmp}
 use Rattle.dfx_value.specs.Decimal.{units, at_scale}
 use Rattle.dfx_value.specs.declared.fault.EvalFault.TheVariants.{Overflow, DivideByZero}
@@ -11,9 +11,11 @@ use Rattle.scalar_exprs.specs.declared.expr.Expr.{Expr}
 use Rattle.scalar_exprs.specs.Eval.{eval}
 use Rattle.logical_plan.specs.Items.{Cells, Item, rows}
 use Rattle.logical_plan.specs.Joins.{joined}
-use Rattle.whole_contents.specs.Bags.{together}
-use Rattle.join_parts.specs.Joining.{join_items}
+use Rattle.whole_contents.specs.Bags.{together, Alike}
+use Rattle.join_parts.specs.Joining.{join_items, joined_parts, AreMatched}
+use Rattle.join_parts.proofs.Parts.{parts_alike}
 use Rattle.join_parts.specs.Tables.{entered, matches}
+use Rattle.join_parts.specs.States.{Join, JoinState, at_start, accepted, ended}
 
 abbrev int : ℕ → Value
 int n = Int (pos n)
@@ -69,3 +71,53 @@ apart = refl
 one : joined Left 2 2 keys None (Ok (two (int 1) (int 4)) ∷ []) (Ok (two (int 1) (int 5)) ∷ []) ≡ Ok (two (int 1) (int 4) ++ two (int 1) (int 5)) ∷ []
 unfolding value_cmp units
 one = refl
+
+-- ---- partitions that meet the premises: matching rows lie in those of one number
+
+abbrev halves : Item → Item → ℕ → List Item
+halves x y zero = x ∷ []
+halves x y (suc n) = y ∷ []
+
+abbrev some_lefts : ℕ → List Item
+some_lefts = halves (Ok (two (int 1) (int 4))) (Ok (two (int 2) (int 6)))
+
+abbrev some_rights : ℕ → List Item
+some_rights = halves (Ok (two (dec 100) (int 2))) (Ok (two (int 3) (int 5)))
+
+matched : AreMatched keys 2 some_lefts some_rights
+unfolding value_cmp units
+matched zero zero l m = ((λ e. refl, tt), tt)
+matched zero (suc j) l m = ((λ e. cc, tt), tt)
+matched (suc i) zero l m = ((λ e. cc, tt), tt)
+matched (suc i) (suc j) l m = ((λ e. omega arith, tt), tt)
+
+turned : Alike (together 2 some_rights) (some_rights 1 ++ some_rights 0)
+turned w same = omega arith
+
+halves_joined : Alike (joined_parts Full 2 2 keys None 2 some_lefts some_rights) (joined Full 2 2 keys None (together 2 some_lefts) (some_rights 1 ++ some_rights 0))
+halves_joined = parts_alike Full 2 2 keys None (together 2 some_lefts) (some_rights 1 ++ some_rights 0) 2 some_lefts some_rights (λ w same. refl) turned matched
+
+halves_are : joined_parts Full 2 2 keys None 2 some_lefts some_rights
+    ≡ Ok (two (int 1) (int 4) ++ two (dec 100) (int 2)) ∷ Ok (two Null Null ++ two (int 3) (int 5)) ∷ Ok (two (int 2) (int 6) ++ two Null Null) ∷ []
+unfolding value_cmp units
+halves_are = refl
+
+-- ---- the operator's state, call by call: left rows, their end, right rows and their end
+
+abbrev join : Join
+join = record { kind = Full; left_width = 2; right_width = 2; keys = keys; rest = None; amount = λ t rows. 0; consumer = None }
+
+abbrev after_lefts : JoinState
+after_lefts = ended join (accepted join at_start (two (int 1) (int 4) ∷ two Null (int 7) ∷ []))
+
+abbrev after_rights : JoinState
+after_rights = ended join (accepted join after_lefts (two (int 3) (int 5) ∷ two (dec 100) (int 2) ∷ []))
+
+marked_are : after_rights.marks ≡ true ∷ false ∷ []
+unfolding value_cmp units
+marked_are = refl
+
+waiting_are : after_rights.waiting
+    ≡ Ok (two Null Null ++ two (int 3) (int 5)) ∷ Ok (two (int 1) (int 4) ++ two (dec 100) (int 2)) ∷ Ok (two Null (int 7) ++ two Null Null) ∷ []
+unfolding value_cmp units
+waiting_are = refl

@@ -11,52 +11,80 @@ ghost use Rattle.logical_plan.specs.Joins.{keys_match, residual, left_pairs, rig
 ghost use Rattle.plan_props.specs.Meets.{Hashing, IsHash, Places};
 ghost use Rattle.physical_plan.specs.Properties.{left_keys, right_keys};
 ghost use Rattle.physical_plan.specs.NodeRows.{Joined};
-ghost use Rattle.node_laws.specs.Nodes.{JoinRow};
+ghost use Rattle.physical_plan.specs.declared.plan.Plan.TheOpen.{Plan-F as Node};
+ghost use Rattle.physical_plan.specs.declared.properties.Declared.{Declared as Said};
+ghost use Rattle.node_laws.specs.Nodes.{JoinRow, NodeGives};
 ghost use Rattle.task_trees.specs.Operators.{Told, with_rows, with_end, with_flush};
 ghost use Rattle.task_trees.specs.OperatorKinds.{is_empty};
-ghost use Rattle.whole_contents.specs.Bags.{SameBag, Alike, together};
-ghost use Rattle.join_parts.specs.Joining.{hash_join, join_items, AreMatched, row_parts};
-ghost use Rattle.join_parts.specs.Tables.{KeyPlaces, upsert, find, entered, matches, places_of, row_at, marks_after, unmarked};
+ghost use Rattle.whole_contents.specs.Bags.{SameBag, Alike, together, row_parts};
+ghost use Rattle.join_parts.specs.Joining.{hash_join, join_items, joined_parts, AreMatched};
+ghost use Rattle.join_parts.specs.Tables.{KeyPlaces, entered, matches, places_of, row_at, marks_after, unmarked};
 ghost use Rattle.join_parts.specs.States.{Join, op_of, JoinState, at_start, accepted, ended, gave, StandsFor};
 
-/// A hash join gives the items of the meaning, in another order (`one`). Of partitions in which matching rows lie together it gives
-/// together the meaning's rows and as many faults, whatever arrangement of the partitions' inputs the meaning takes (`parts`), and
-/// the meaning's faults too where those of the inputs are the same (`same`); a fault that it gives is one of an input or of the
-/// meaning (`faults`). Rows lie so where each is in the partition of the hash of its keys (`placed`), and where there is one
-/// partition (`single`). The rows of each partition are those of a join's node (`rows`), and of the kinds of its columns (`kinds`).
-/// All of it is what the operator gives of whole inputs (`whole`).
+/// A hash join gives the items of the meaning, in another order (`one`), and they are what the
+/// operator gives of whole inputs (`whole`).
+///
+/// Of partitions in which matching rows lie together hash joins give together the meaning's rows,
+/// each as often, and as many faults, whatever arrangement of the partitions' inputs the meaning
+/// takes (`parts`); and the meaning's faults too where those of the inputs are the same (`same`). A
+/// fault that they give is one of an input or of the meaning (`faults`). Rows lie so where each is
+/// in the partition of the hash of its keys (`placed`), and where there is one partition
+/// (`single`).
+///
+/// The rows of each partition are those of a join's node (`rows`, `node`), and of the kinds of its
+/// columns (`kinds`).
 pub fn join_law()
-    ensures whole { (kind : Kept) (left_width right_width : ℕ) (keys : List (ℕ × ℕ)) (rest : Option Expr) (amount : Told → List Cells → ℕ) (consumer : Option ℕ) (t : Told) (inputs : ℕ → List Item)
-        → (hash_join kind left_width right_width keys rest amount consumer).whole t inputs ≡ join_items kind left_width right_width keys rest (inputs 0) (inputs 1) }
-    ensures one { (kind : Kept) (left_width right_width : ℕ) (keys : List (ℕ × ℕ)) (rest : Option Expr) (ls rs : List Item)
-        → SameBag (join_items kind left_width right_width keys rest ls rs) (joined kind left_width right_width keys rest ls rs) }
-    ensures parts { (kind : Kept) (left_width right_width : ℕ) (keys : List (ℕ × ℕ)) (rest : Option Expr) (ls rs : List Item) (n : ℕ) (lefts rights : ℕ → List Item)
+    ensures one { (kind : Kept) (left_width right_width : ℕ) (keys : List (ℕ × ℕ)) (rest : Option Expr)
+        (ls rs : List Item)
+        → SameBag (join_items kind left_width right_width keys rest ls rs)
+        (joined kind left_width right_width keys rest ls rs) }
+    ensures whole { (kind : Kept) (left_width right_width : ℕ) (keys : List (ℕ × ℕ)) (rest : Option Expr)
+        (amount : Told → List Cells → ℕ) (consumer : Option ℕ) (t : Told) (inputs : ℕ → List Item)
+        → (hash_join kind left_width right_width keys rest amount consumer).whole t inputs
+        ≡ join_items kind left_width right_width keys rest (inputs 0) (inputs 1) }
+    ensures parts { (kind : Kept) (left_width right_width : ℕ) (keys : List (ℕ × ℕ)) (rest : Option Expr)
+        (ls rs : List Item) (n : ℕ) (lefts rights : ℕ → List Item)
         → Alike (together n lefts) ls → Alike (together n rights) rs → AreMatched keys n lefts rights
-        → Alike (together n (λ i. join_items kind left_width right_width keys rest (lefts i) (rights i))) (joined kind left_width right_width keys rest ls rs) }
-    ensures same { (kind : Kept) (left_width right_width : ℕ) (keys : List (ℕ × ℕ)) (rest : Option Expr) (ls rs : List Item) (n : ℕ) (lefts rights : ℕ → List Item)
+        → Alike (joined_parts kind left_width right_width keys rest n lefts rights)
+        (joined kind left_width right_width keys rest ls rs) }
+    ensures same { (kind : Kept) (left_width right_width : ℕ) (keys : List (ℕ × ℕ)) (rest : Option Expr)
+        (ls rs : List Item) (n : ℕ) (lefts rights : ℕ → List Item)
         → SameBag (together n lefts) ls → SameBag (together n rights) rs → AreMatched keys n lefts rights
-        → SameBag (together n (λ i. join_items kind left_width right_width keys rest (lefts i) (rights i))) (joined kind left_width right_width keys rest ls rs) }
-    ensures faults { (kind : Kept) (left_width right_width : ℕ) (keys : List (ℕ × ℕ)) (rest : Option Expr) (ls rs : List Item) (n : ℕ) (lefts rights : ℕ → List Item) (test : ItemFault → Bool)
+        → SameBag (joined_parts kind left_width right_width keys rest n lefts rights)
+        (joined kind left_width right_width keys rest ls rs) }
+    ensures faults { (kind : Kept) (left_width right_width : ℕ) (keys : List (ℕ × ℕ)) (rest : Option Expr)
+        (ls rs : List Item) (n : ℕ) (lefts rights : ℕ → List Item) (test : ItemFault → Bool)
         → Alike (together n lefts) ls → Alike (together n rights) rs → AreMatched keys n lefts rights
-        → AllPass test (faults (together n lefts)) → AllPass test (faults (together n rights)) → AllPass test (faults (joined kind left_width right_width keys rest ls rs))
-        → AllPass test (faults (together n (λ i. join_items kind left_width right_width keys rest (lefts i) (rights i)))) }
+        → AllPass test (faults (together n lefts)) → AllPass test (faults (together n rights))
+        → AllPass test (faults (joined kind left_width right_width keys rest ls rs))
+        → AllPass test (faults (joined_parts kind left_width right_width keys rest n lefts rights)) }
     ensures placed { (h : Hashing) (keys : List (ℕ × ℕ)) (n : ℕ) (lefts rights : ℕ → List Item)
-        → IsHash h → Places h (left_keys keys) n (row_parts n lefts) → Places h (right_keys keys) n (row_parts n rights) → AreMatched keys n lefts rights }
+        → IsHash h
+        → Places h (left_keys keys) n (row_parts n lefts) → Places h (right_keys keys) n (row_parts n rights)
+        → AreMatched keys n lefts rights }
     ensures single { (keys : List (ℕ × ℕ)) (lefts rights : ℕ → List Item) → AreMatched keys 1 lefts rights }
-    ensures rows { (kind : Kept) (left_width right_width : ℕ) (keys : List (ℕ × ℕ)) (rest : Option Expr) (n : ℕ) (lefts rights : ℕ → List Item)
+    ensures rows { (kind : Kept) (left_width right_width : ℕ) (keys : List (ℕ × ℕ)) (rest : Option Expr)
+        (n : ℕ) (lefts rights : ℕ → List Item)
         → Joined (JoinRow kind keys left_width right_width) (row_parts n lefts) (row_parts n rights)
         (row_parts n (λ i. join_items kind left_width right_width keys rest (lefts i) (rights i))) }
-    ensures kinds { (kind : Kept) (left right : List Kind) (keys : List (ℕ × ℕ)) (rest : Option Expr) (ls rs : List Item)
+    ensures node { (h : Hashing) (left right : Said) (kind : Kept) (keys : List (ℕ × ℕ)) (rest : Option Expr)
+        (n : ℕ) (lefts rights : ℕ → List Item)
+        → NodeGives h (Node.HashJoin kind (left, row_parts n lefts) (right, row_parts n rights) keys rest)
+        (row_parts n (λ i. join_items kind left.width right.width keys rest (lefts i) (rights i))) }
+    ensures kinds { (kind : Kept) (left right : List Kind) (keys : List (ℕ × ℕ)) (rest : Option Expr)
+        (ls rs : List Item)
         → AllPass (are_of left) (rows ls) → AllPass (are_of right) (rows rs)
         → AllPass (are_of (left ++ right)) (rows (join_items kind (length left) (length right) keys rest ls rs)) }
 {}
 
-/// How code joins: a table from the keys of left rows to their places tells the left rows that match a right row, in their order
-/// (`found`), so what a right row gives (`pairs`), and the left rows without a match or a fault (`lefts`), which are those without
-/// a mark (`marks`). The places are within the left rows, and there is a mark for each (`within`). A table grows by rows (`grown`),
-/// each of which is one `upsert`, and what stands at a key is what its upserts made (`upserted`).
+/// How code joins: a table from the keys of left rows to their places tells the left rows that
+/// match a right row, in their order (`found`), so what a right row gives (`pairs`), and the left
+/// rows without a match or a fault (`lefts`), which are those without a mark (`marks`). The places
+/// are within the left rows, and there is a mark for each (`within`). A table grows by rows
+/// (`grown`), each of which is one `upsert`, or none where a key is NULL.
 pub fn table_law()
-    ensures found { (keys : List (ℕ × ℕ)) (ls : List Cells) (r : Cells) → matches keys ls r ≡ places_of (λ l. keys_match keys l r) 0 ls }
+    ensures found { (keys : List (ℕ × ℕ)) (ls : List Cells) (r : Cells)
+        → matches keys ls r ≡ places_of (λ l. keys_match keys l r) 0 ls }
     ensures pairs { (keys : List (ℕ × ℕ)) (rest : Option Expr) (ls : List Cells) (r : Cells)
         → flat_map (λ at. residual rest (row_at ls at ++ r)) (matches keys ls r) ≡ right_pairs keys rest ls r }
     ensures marks { (keys : List (ℕ × ℕ)) (rest : Option Expr) (ls rs : List Cells)
@@ -67,21 +95,28 @@ pub fn table_law()
         → All (λ at. at < length ls) (matches keys ls r) × (length (marks_after keys rest ls rs) ≡ length ls) }
     ensures grown { (columns : List ℕ) (t : KeyPlaces) (at : ℕ) (ls more : List Cells)
         → entered columns t at (ls ++ more) ≡ entered columns (entered columns t at ls) (at + length ls) more }
-    ensures upserted { (es : List (Cells × List ℕ)) (key k : Cells) (start : List ℕ) (f : List ℕ → List ℕ)
-        → find (upsert es key start f) k ≡ (if same_keys key k then Some (f (unwrap_or (find es k) start)) else find es k) }
 {}
 
-/// What an operator of a hash join may hold, call by call. Where it stands for what it was told and gave, it asks the operator's
-/// input, is complete where that is, and stands for what the operator is told next after rows and the end of the wanted side, and
-/// for more given items after some that wait were given.
+/// What an operator of a hash join may hold, call by call. Before it is told anything it stands for
+/// that (`start`). Where it stands for what it was told and gave, it asks the operator's input
+/// (`wanted`), is complete where that is (`complete`), and stands for what the operator is told
+/// next after rows (`accept`) and the end (`end`) of the wanted side, and after a flush (`flush`),
+/// and for more given items after some that wait were given (`give`).
 pub fn state_law()
-    ensures start { (j : Join) (t : Told) → t.taken 0 ≡ [] → t.taken 1 ≡ [] → t.ended 0 ≡ false → t.ended 1 ≡ false → StandsFor j at_start t 0 }
-    ensures wanted { (j : Join) (s : JoinState) (t : Told) (n : ℕ) → StandsFor j s t n → (if s.left_over then 1 else 0) ≡ (op_of j).wanted t }
-    ensures complete { (j : Join) (s : JoinState) (t : Told) (n : ℕ) → StandsFor j s t n → s.left_over && s.right_over ≡ (op_of j).is_complete t }
-    ensures accept { (j : Join) (s : JoinState) (t : Told) (n : ℕ) (rows : List Cells) → StandsFor j s t n → (op_of j).is_complete t ≡ false
+    ensures start { (j : Join) (t : Told)
+        → t.taken 0 ≡ [] → t.taken 1 ≡ [] → t.ended 0 ≡ false → t.ended 1 ≡ false → StandsFor j at_start t 0 }
+    ensures wanted { (j : Join) (s : JoinState) (t : Told) (n : ℕ)
+        → StandsFor j s t n → (if s.left_over then 1 else 0) ≡ (op_of j).wanted t }
+    ensures complete { (j : Join) (s : JoinState) (t : Told) (n : ℕ)
+        → StandsFor j s t n → s.left_over && s.right_over ≡ (op_of j).is_complete t }
+    ensures accept { (j : Join) (s : JoinState) (t : Told) (n : ℕ) (rows : List Cells)
+        → StandsFor j s t n → (op_of j).is_complete t ≡ false
         → StandsFor j (accepted j s rows) (with_rows t ((op_of j).wanted t) rows) n }
-    ensures end { (j : Join) (s : JoinState) (t : Told) (n : ℕ) → StandsFor j s t n → (op_of j).is_complete t ≡ false
+    ensures end { (j : Join) (s : JoinState) (t : Told) (n : ℕ)
+        → StandsFor j s t n → (op_of j).is_complete t ≡ false
         → StandsFor j (ended j s) (with_end t ((op_of j).wanted t)) n }
-    ensures flush { (j : Join) (s : JoinState) (t : Told) (n : ℕ) → StandsFor j s t n → StandsFor j s (with_flush t) n }
-    ensures give { (j : Join) (s : JoinState) (t : Told) (n k : ℕ) → StandsFor j s t n → k ≤ length s.waiting → StandsFor j (gave s k) t (n + k) }
+    ensures flush { (j : Join) (s : JoinState) (t : Told) (n : ℕ)
+        → StandsFor j s t n → StandsFor j s (with_flush t) n }
+    ensures give { (j : Join) (s : JoinState) (t : Told) (n k : ℕ)
+        → StandsFor j s t n → k ≤ length s.waiting → StandsFor j (gave s k) t (n + k) }
 {}

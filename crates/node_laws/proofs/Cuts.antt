@@ -1,12 +1,11 @@
 -- Some of the rows of each partition, in their order.
-use Rattle.std.proofs.Common.{ℕ, zero, suc, ◌≡◌, refl, sym, ap, ◌∙◌, subst, Option, Some, None, List, [], ◌∷◌, map, length}
+use Rattle.std.proofs.Common.{ℕ, zero, suc, ◌≡◌, sym, ◌∙◌, subst, List, [], ◌∷◌, length}
 use Rattle.std.specs.Prelude.{take, drop}
 use Rattle.dfx_value.specs.declared.rows.SortKey.{SortKey}
 use Rattle.plan_props.specs.declared.properties.Props.{Props}
 use Rattle.plan_props.specs.Meets.{Row, Hashing, Each, NotBefore, InOrder, Hashed, PairsHold, Agree, Meets, part}
 use Rattle.plan_props.proofs.Sound.{each_map}
-use Rattle.physical_plan.proofs.Meetings.{part_map, length_map}
-use Rattle.node_laws.specs.Rows.{cut, Begins, Begun}
+use Rattle.node_laws.specs.Rows.{IsStretch, Stretches, Begins, Begun}
 
 -- what holds of each row, and any order, still holds
 record Keeps (rows fewer : List Row) : Type 1 where
@@ -38,9 +37,8 @@ keeps_drop zero rows = keeps_all rows
 keeps_drop (suc n) [] = keeps_none []
 keeps_drop (suc n) (r ∷ rs) = keeps_on (r ∷ rs) rs (drop n rs) (keeps_rest r rs) (keeps_drop n rs)
 
-keeps_cut : (skip : ℕ) (fetch : Option ℕ) (rows : List Row) → Keeps rows (cut skip fetch rows)
-keeps_cut skip None rows = keeps_drop skip rows
-keeps_cut skip (Some n) rows = keeps_on rows (drop skip rows) (take n (drop skip rows)) (keeps_drop skip rows) (keeps_take n (drop skip rows))
+keeps_stretch : (rows out : List Row) → IsStretch rows out → Keeps rows out
+keeps_stretch rows out s = subst (Keeps rows) (sym s.2) (keeps_on rows (drop s.0 rows) (take s.1 (drop s.0 rows)) (keeps_drop s.0 rows) (keeps_take s.1 (drop s.0 rows)))
 
 keeps_front : (fewer rows : List Row) → Begins fewer rows → Keeps rows fewer
 keeps_front [] rows b = keeps_none rows
@@ -58,32 +56,14 @@ fewer_meets h p ins outs c k m = record {
       ((k i).each (λ r. Each (Agree p.constants r) (part ins j)) (m.constant i j));
 }
 
-abbrev none : List Row
-none = []
-
-drop_none : (n : ℕ) → drop n none ≡ none
-drop_none zero = refl
-drop_none (suc n) = refl
-
-take_none : (n : ℕ) → take n none ≡ none
-take_none zero = refl
-take_none (suc n) = refl
-
-cut_none : (skip : ℕ) (fetch : Option ℕ) → cut skip fetch none ≡ none
-cut_none skip None = drop_none skip
-cut_none skip (Some n) = ap (λ (rows : List Row). take n rows) (drop_none skip) ∙ take_none n
-
-pub cut_meets : (h : Hashing) (skip : ℕ) (fetch : Option ℕ) (p : Props) (parts : List (List Row)) → Meets h p parts → Meets h p (map (cut skip fetch) parts)
-cut_meets h skip fetch p parts m =
-    fewer_meets h p parts (map (cut skip fetch) parts) (length_map (cut skip fetch) parts)
-    (λ j. subst (Keeps (part parts j)) (sym (part_map (cut skip fetch) (cut_none skip fetch) parts j)) (keeps_cut skip fetch (part parts j)))
-    m
+pub stretches_meet : (h : Hashing) (p : Props) (ins outs : List (List Row)) → Stretches ins outs → Meets h p ins → Meets h p outs
+stretches_meet h p ins outs s m = fewer_meets h p ins outs s.count (λ j. keeps_stretch (part ins j) (part outs j) (s.rows j)) m
 
 pub begun_meets : (h : Hashing) (p : Props) (whole outs : List (List Row)) → Begun whole outs → Meets h p whole → Meets h p outs
 begun_meets h p whole outs b m = fewer_meets h p whole outs b.count (λ j. keeps_front (part outs j) (part whole j) (b.rows j)) m
 
-pub cut_each : (P : Row → Type 0) (skip : ℕ) (fetch : Option ℕ) (parts : List (List Row)) (j : ℕ) → Each P (part parts j) → Each P (part (map (cut skip fetch) parts) j)
-cut_each P skip fetch parts j e = subst (Each P) (sym (part_map (cut skip fetch) (cut_none skip fetch) parts j)) ((keeps_cut skip fetch (part parts j)).each P e)
+pub stretch_each : (P : Row → Type 0) (ins outs : List (List Row)) → Stretches ins outs → (j : ℕ) → Each P (part ins j) → Each P (part outs j)
+stretch_each P ins outs s j e = (keeps_stretch (part ins j) (part outs j) (s.rows j)).each P e
 
 pub begun_each : (P : Row → Type 0) (whole outs : List (List Row)) → Begun whole outs → (j : ℕ) → Each P (part whole j) → Each P (part outs j)
 begun_each P whole outs b j e = (keeps_front (part outs j) (part whole j) (b.rows j)).each P e

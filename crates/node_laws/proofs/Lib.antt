@@ -7,3 +7,4 @@ pub mod Paddings
 pub mod Ranges
 pub mod Widths
 pub mod Wholes
+pub mod Tested

@@ -1,5 +1,5 @@
--- Interleavings: what holds of all rows of the partitions holds of the list, and the other way round.
-use Rattle.std.proofs.Common.{ℕ, zero, suc, ◌≡◌, inl, inr, refl, sym, subst, false, List, [], ◌∷◌}
+-- Interleavings: what holds of all rows of the partitions holds of the list.
+use Rattle.std.proofs.Common.{ℕ, zero, suc, ◌≡◌, inl, inr, refl, subst, false, List, [], ◌∷◌}
 use Rattle.std.specs.Prelude.{slice_set}
 use Rattle.std.specs.declared.cmp.Ordering.{Ordering}
 use Rattle.std.specs.declared.cmp.Ordering.TheVariants.{Less, Equal, Greater}
@@ -29,18 +29,6 @@ taken Q (p ∷ ps) zero (suc j) r rest e f q = q
 taken Q (p ∷ ps) (suc i) zero r rest e f q = q
 taken Q (p ∷ ps) (suc i) (suc j) r rest e f q = taken Q ps i j r rest e f q
 
-put_back : (Q : List Row → Type 0) (parts : List (List Row)) (i j : ℕ) (r : Row) (rest : List Row) → part parts i ≡ r ∷ rest → (Q rest → Q (r ∷ rest)) → Q (part (slice_set parts i rest) j) → Q (part parts j)
-put_back Q [] i j r rest e f q = cc
-put_back Q (p ∷ ps) zero zero r rest e f q = subst Q (sym e) (f q)
-put_back Q (p ∷ ps) zero (suc j) r rest e f q = q
-put_back Q (p ∷ ps) (suc i) zero r rest e f q = q
-put_back Q (p ∷ ps) (suc i) (suc j) r rest e f q = put_back Q ps i j r rest e f q
-
-at_taken : (parts : List (List Row)) (i : ℕ) (r : Row) (rest : List Row) → part parts i ≡ r ∷ rest → part (slice_set parts i rest) i ≡ rest
-at_taken [] i r rest e = cc
-at_taken (p ∷ ps) zero r rest e = refl
-at_taken (p ∷ ps) (suc i) r rest e = at_taken ps i r rest e
-
 -- ---- facts of rows
 
 pub woven_each : (P : Row → Type 0) (parts : List (List Row)) (out : List Row) → Interleaves parts out → ((j : ℕ) → Each P (part parts j)) → Each P out
@@ -50,18 +38,7 @@ woven_each P parts (r ∷ rs) w f = (
   woven_each P (slice_set parts w.0 w.1) rs w.3 (λ j. taken (Each P) parts w.0 j r w.1 w.2 (λ q. q.1) (f j)),
 )
 
-pub each_woven : (P : Row → Type 0) (parts : List (List Row)) (out : List Row) → Interleaves parts out → Each P out → (j : ℕ) → Each P (part parts j)
-each_woven P parts [] w h j = subst (Each P) (sym (w j)) tt
-each_woven P parts (r ∷ rs) w h j = put_back (Each P) parts w.0 j r w.1 w.2 (λ q. (h.0, q)) (each_woven P (slice_set parts w.0 w.1) rs w.3 h.1 j)
-
 -- ---- orders
-
-pub order_woven : (keys : List SortKey) (parts : List (List Row)) (out : List Row) → Interleaves parts out → InOrder keys out → (j : ℕ) → InOrder keys (part parts j)
-order_woven keys parts [] w h j = subst (InOrder keys) (sym (w j)) tt
-order_woven keys parts (r ∷ rs) w h j =
-    put_back (InOrder keys) parts w.0 j r w.1 w.2
-    (λ q. (subst (Each (NotBefore keys r)) (at_taken parts w.0 r w.1 w.2) (each_woven (NotBefore keys r) (slice_set parts w.0 w.1) rs w.3 h.0 w.0), q))
-    (order_woven keys (slice_set parts w.0 w.1) rs w.3 h.1 j)
 
 not_greater : (o : Ordering) → (o ≡ Greater → ⊥) → is_gt o ≡ false
 not_greater Less n = refl
@@ -112,13 +89,13 @@ module _ (h : Hashing) (d : Declared) (ins outs : List (List Row)) (m : Meets h 
       (λ s y. each_has (Agree d.props.constants r) (part ins y.0) s (each_has (λ r. Each (Agree d.props.constants r) (part ins y.0)) (part ins x.0) r (m.constant x.0 y.0) x.1) y.1) (from j))
       (from i)
 
--- ---- Coalesce and Merge
+-- ---- Merge
 
 of_one : (Q : List Row → Type 0) (out : List Row) (j : ℕ) → Q out → Q [] → Q (part (out ∷ []) j)
 of_one Q out zero q e = q
 of_one Q out (suc j) q e = e
 
-pub gathered_meets : (h : Hashing) (keys : List SortKey) (d : Declared) (ins : List (List Row)) (out : List Row) → Interleaves ins out → InOrder keys out → Meets h d.props ins → Meets h (merged keys d).props (out ∷ [])
+pub gathered_meets : (h : Hashing) (keys : List SortKey) (d : Declared) (ins : List (List Row)) (out : List Row) → Each (HoldsIn ins) out → InOrder keys out → Meets h d.props ins → Meets h (merged keys d).props (out ∷ [])
 gathered_meets h keys d ins out w o m = record {
   count = refl;
   hashed = λ j. each_all (part (out ∷ []) j) (λ r. tt);
@@ -128,14 +105,7 @@ gathered_meets h keys d ins out w o m = record {
 }
   where
     from : (j : ℕ) → Each (HoldsIn ins) (part (out ∷ []) j)
-    from j = of_one (Each (HoldsIn ins)) out j (woven_each (HoldsIn ins) ins out w (rows_in ins)) tt
-
-pub coalesce_meets : (h : Hashing) (d : Declared) (ins : List (List Row)) (out : List Row) → Interleaves ins out → Meets h d.props ins → Meets h (merged [] d).props (out ∷ [])
-coalesce_meets h d ins out w m = gathered_meets h [] d ins out w (unordered out) m
-  where
-    unordered : (rs : List Row) → InOrder [] rs
-    unordered [] = tt
-    unordered (r ∷ rs) = (each_all rs (λ s q. cc), unordered rs)
+    from j = of_one (Each (HoldsIn ins)) out j w tt
 
 pub merge_meets : (h : Hashing) (keys : List SortKey) (d : Declared) (ins : List (List Row)) (out : List Row) → AllInOrder keys ins → Merges keys ins out → Meets h d.props ins → Meets h (merged keys d).props (out ∷ [])
-merge_meets h keys d ins out o w m = gathered_meets h keys d ins out (merges_interleave keys ins out w) (merges_in_order keys ins out o w) m
+merge_meets h keys d ins out o w m = gathered_meets h keys d ins out (woven_each (HoldsIn ins) ins out (merges_interleave keys ins out w) (rows_in ins)) (merges_in_order keys ins out o w) m

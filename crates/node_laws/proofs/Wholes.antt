@@ -24,9 +24,9 @@ use Rattle.physical_plan.proofs.Others.{sort_meets, repartition_meets, union_mee
 use Rattle.node_laws.specs.Weaves.{Interleaves}
 use Rattle.node_laws.specs.Rows.{Begun, RightSides}
 use Rattle.node_laws.specs.Nodes.{IsWide, AllWide, Stands, Input, PlanInput, plans_of, inputs_of, AllStand, declared_inputs, rows_of, HaveWidth, JoinRow, Exchanges, NodeGives, NodeNeeds, InRange}
-use Rattle.node_laws.proofs.Weavings.{woven_each, merges_interleave, coalesce_meets, merge_meets}
-use Rattle.node_laws.proofs.Cuts.{cut_meets, cut_each, begun_meets, begun_each}
-use Rattle.node_laws.proofs.Dealings.{single_parts, single_hashed, unordered, dealt_from, deal_meets}
+use Rattle.node_laws.proofs.Weavings.{woven_each, merges_interleave, merge_meets}
+use Rattle.node_laws.proofs.Cuts.{stretches_meet, stretch_each, begun_meets, begun_each}
+use Rattle.node_laws.proofs.Dealings.{single_parts, single_hashed, unordered, deal_meets, coalesce_meets}
 use Rattle.node_laws.proofs.Groupings.{partial_meets, final_meets}
 use Rattle.node_laws.proofs.Paddings.{right_meets, full_meets}
 use Rattle.node_laws.proofs.Ranges.{within_append, pairs_within_append, within_more, pairs_within_more, within_shifted, pairs_within_shifted, pairs_within_joined, place_below, within_renamed, pairs_within_renamed, literals_below}
@@ -146,8 +146,8 @@ one_wide w ins out h i zero = woven_each (IsWide w) ins out i h
 one_wide w ins out h i (suc j) = tt
 
 exchange_stands : (h : Hashing) (to : Partitioning) (d : Declared) (ins outs : List (List Row)) → Stands h d ins → Exchanges h to ins outs → Stands h (repartitioned to d) outs
-exchange_stands h (parting.Hash cs n) d ins outs s x = record { meets = repartition_meets h cs n d ins outs x s.meets; wide = wide_from d.width ins outs s.wide x.from; pairs = s.pairs; constants = s.constants }
-exchange_stands h (parting.RoundRobin n) d ins outs s x = record { meets = deal_meets h n d ins outs x s.meets; wide = wide_from d.width ins outs s.wide (dealt_from h n d ins outs x s.meets); pairs = s.pairs; constants = s.constants }
+exchange_stands h (parting.Hash cs n) d ins outs s x = record { meets = repartition_meets h cs n d ins outs x s.meets; wide = wide_from d.width ins outs s.wide x.dealt.from; pairs = s.pairs; constants = s.constants }
+exchange_stands h (parting.RoundRobin n) d ins outs s x = record { meets = deal_meets h n d ins outs x s.meets; wide = wide_from d.width ins outs s.wide x.from; pairs = s.pairs; constants = s.constants }
 exchange_stands h parting.Single d ins outs s x = absurd x
 exchange_stands h (parting.Unknown n) d ins outs s x = absurd x
 
@@ -164,16 +164,12 @@ node_stands h n (Plan-F.Sort i keys) outs s need g = record { meets = sort_meets
 node_stands h n (Plan-F.Merge i keys) outs s need g =
     subst (Stands h (merged keys i.0)) (sym g.1)
     (record { meets = merge_meets h keys i.0 i.1 g.0 need g.2 s.0.meets; wide = one_wide i.0.width i.1 g.0 s.0.wide (merges_interleave keys i.1 g.0 g.2); pairs = s.0.pairs; constants = s.0.constants })
-node_stands h n (Plan-F.Coalesce i) outs s need g =
-    subst (Stands h (merged [] i.0)) (sym g.1)
-    (record { meets = coalesce_meets h i.0 i.1 g.0 g.2 s.0.meets; wide = one_wide i.0.width i.1 g.0 s.0.wide g.2; pairs = s.0.pairs; constants = s.0.constants })
+node_stands h n (Plan-F.Coalesce i) outs s need g = record { meets = coalesce_meets h i.0 i.1 outs g s.0.meets; wide = wide_from i.0.width i.1 outs s.0.wide g.from; pairs = s.0.pairs; constants = s.0.constants }
 node_stands h n (Plan-F.Repartition i to) outs s need g = exchange_stands h to i.0 i.1 outs s.0 g
 node_stands h n (Plan-F.UnionAll is) outs s need g =
     subst (Stands h (united (declared_inputs is))) (sym g)
     (record { meets = union_meets h (declared_inputs is) (rows_of is) (inputs_meet h is s); wide = inputs_wide h (first_width (declared_inputs is)) is s need; pairs = tt; constants = tt })
-node_stands h n (Plan-F.Limit i skip fetch) outs s need g =
-    subst (Stands h i.0) (sym g)
-    (record { meets = cut_meets h skip fetch i.0.props i.1 s.0.meets; wide = λ j. cut_each (IsWide i.0.width) skip fetch i.1 j (s.0.wide j); pairs = s.0.pairs; constants = s.0.constants })
+node_stands h n (Plan-F.Limit i skip fetch) outs s need g = record { meets = stretches_meet h i.0.props i.1 outs g s.0.meets; wide = λ j. stretch_each (IsWide i.0.width) i.1 outs g j (s.0.wide j); pairs = s.0.pairs; constants = s.0.constants }
 
 -- ---- nodes of plans, and rows so far
 

@@ -1,34 +1,35 @@
-ghost use Rattle.std.specs.Prelude.{ℕ, ◌≡◌, true, Option, List, [], ◌∷◌, map, length};
+ghost use Rattle.std.specs.Prelude.{ℕ, ◌≡◌, true, List, [], ◌∷◌, length};
 ghost use Rattle.dfx_value.specs.declared.rows.SortKey.{SortKey as Key};
 ghost use Rattle.dfx_value.specs.declared.op.JoinKind.TheVariants.{Right as RightJoin, Full as FullJoin};
 ghost use Rattle.plan_props.specs.declared.properties.Partitioning.TheVariants.{RoundRobin as ByTurns};
-ghost use Rattle.plan_props.specs.Meets.{Row, Hashing, IsHash, Meets, Delivers, InOrder, AllInOrder};
+ghost use Rattle.plan_props.specs.Meets.{Row, Hashing, IsHash, Each, Meets, Delivers, InOrder, AllInOrder};
 ghost use Rattle.physical_plan.specs.declared.plan.Plan.TheOpen.{Plan-F as Node};
 ghost use Rattle.physical_plan.specs.declared.plan.Plan.TheViews.{roll-Plan};
 ghost use Rattle.physical_plan.specs.declared.plan.Plan.TheFolds.{map-Plan};
 ghost use Rattle.physical_plan.specs.declared.properties.Declared.{Declared as Said};
 ghost use Rattle.physical_plan.specs.Properties.{grouped, merged, repartitioned, hash_joined, declared, declared_of};
 ghost use Rattle.physical_plan.specs.Planned.{kids, group_need, spread_needs, order_needs};
-ghost use Rattle.physical_plan.specs.NodeRows.{Joined};
-ghost use Rattle.node_laws.specs.Weaves.{Interleaves, Merges};
+ghost use Rattle.physical_plan.specs.NodeRows.{Dealt, HoldsIn, Joined};
+ghost use Rattle.node_laws.specs.Weaves.{Merges};
 ghost use Rattle.node_laws.specs.Nodes.{Stands, Input, PlanInput, AllStand, NodeNeeds, NodeGives, InRange, plans_of, inputs_of};
-ghost use Rattle.node_laws.specs.Rows.{cut, Begun, Dealt, PartGroups, Groups, RightRow, FullRow, RightSides};
+ghost use Rattle.node_laws.specs.Tests.{needs_in_range};
+ghost use Rattle.node_laws.specs.Rows.{Stretches, Begun, PartGroups, Groups, RightRow, FullRow, RightSides};
 
 /// What a node declares follows from what its inputs declare, for the rows that the node gives.
 ///
 /// Where a node needs something of its input, that is a premise: the order of a Merge, the distribution of groups, the sides of a join.
 /// Limit declares what its input does, and so do the rows that any node gave so far.
 pub fn node_laws()
-    ensures limit { (h : Hashing) (skip : ℕ) (fetch : Option ℕ) (d : Said) (parts : List (List Row))
-        → Meets h d.props parts → Meets h d.props (map (cut skip fetch) parts) }
+    ensures limit { (h : Hashing) (d : Said) (ins outs : List (List Row))
+        → Stretches ins outs → Meets h d.props ins → Meets h d.props outs }
     ensures begun { (h : Hashing) (d : Said) (whole outs : List (List Row))
         → Begun whole outs → Meets h d.props whole → Meets h d.props outs }
-    ensures coalesce { (h : Hashing) (d : Said) (ins : List (List Row)) (out : List Row)
-        → Interleaves ins out → Meets h d.props ins → Meets h (merged [] d).props (out ∷ []) }
+    ensures coalesce { (h : Hashing) (d : Said) (ins outs : List (List Row))
+        → Dealt 1 ins outs → Meets h d.props ins → Meets h (merged [] d).props outs }
     ensures merge { (h : Hashing) (keys : List Key) (d : Said) (ins : List (List Row)) (out : List Row)
         → AllInOrder keys ins → Merges keys ins out → Meets h d.props ins → Meets h (merged keys d).props (out ∷ []) }
     ensures in_order { (h : Hashing) (keys : List Key) (d : Said) (ins : List (List Row)) (out : List Row)
-        → Interleaves ins out → InOrder keys out → Meets h d.props ins → Meets h (merged keys d).props (out ∷ []) }
+        → Each (HoldsIn ins) out → InOrder keys out → Meets h d.props ins → Meets h (merged keys d).props (out ∷ []) }
     ensures deal { (h : Hashing) (n : ℕ) (d : Said) (ins outs : List (List Row))
         → Dealt n ins outs → Meets h d.props ins → Meets h (repartitioned (ByTurns n) d).props outs }
     ensures partial_group { (h : Hashing) (width : ℕ) (keys : List ℕ) (d : Said) (ins outs : List (List Row))
@@ -65,4 +66,9 @@ pub fn needs_law()
         → AllStand h (kids (inputs_of node)) → InRange (inputs_of node)
         → spread_needs n (plans_of node) ≡ true → order_needs (plans_of node) ≡ true
         → NodeNeeds h n (inputs_of node) }
+{}
+
+/// Where a node of plans passes the test, the columns that its needs speak of are in range.
+pub fn range_test_law()
+    ensures { (node : Node PlanInput) → needs_in_range (plans_of node) ≡ true → InRange (inputs_of node) }
 {}

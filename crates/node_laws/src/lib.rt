@@ -3,4 +3,4 @@
 
 mod law;
 
-pub use law::{needs_law, node_laws, whole_law};
+pub use law::{needs_law, node_laws, range_test_law, whole_law};

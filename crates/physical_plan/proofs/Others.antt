@@ -11,11 +11,11 @@ use Rattle.dfx_value.specs.declared.op.JoinKind.TheVariants.{Inner, Left}
 use Rattle.plan_props.specs.declared.properties.Partitioning.{Partitioning}
 use Rattle.plan_props.specs.declared.properties.Partitioning.TheVariants as parting
 use Rattle.plan_props.specs.Satisfies.{partition_count}
-use Rattle.plan_props.specs.Meets.{Row, Hashing, Equals, PairsHold, Agree, cells_at, Each, InOrder, Hashed, part, Meets, is_null}
+use Rattle.plan_props.specs.Meets.{Row, Hashing, Equals, PairsHold, Agree, cells_at, Each, NotBefore, InOrder, Hashed, part, Meets, is_null}
 use Rattle.plan_props.proofs.Sound.{each_map, each_all}
 use Rattle.physical_plan.specs.declared.properties.Declared.{Declared}
-use Rattle.physical_plan.specs.Properties.{sorted, repartitioned, or_single, parts, united, hash_joined, left_keys, shifted, joined_pairs}
-use Rattle.physical_plan.specs.NodeRows.{Holds, HoldsIn, Arranged, Exchanged, Matches, nulls, InnerRow, LeftRow, Joined, united_parts}
+use Rattle.physical_plan.specs.Properties.{sorted, kept_order, repartitioned, or_single, parts, united, hash_joined, left_keys, shifted, joined_pairs}
+use Rattle.physical_plan.specs.NodeRows.{Holds, HoldsIn, Arranged, IsSubsequence, Dealt, Exchanged, Matches, nulls, InnerRow, LeftRow, Joined, united_parts}
 use Rattle.physical_plan.specs.Joins.{AllMeet, Within, PairsWithin, Sides}
 use Rattle.physical_plan.proofs.Meetings.{agree-append, pairs-append}
 
@@ -61,21 +61,37 @@ single_hashed h p j r x = go (eqb (partition_count p) 1)
     go true = tt
     go false = x
 
+each_sub : (P : Row → Type 0) (out rows : List Row) → IsSubsequence out rows → Each P rows → Each P out
+each_sub P [] rows i e = tt
+each_sub P (r ∷ rs) [] i e = absurd i
+each_sub P (r ∷ rs) (s ∷ ss) (inl w) e = (subst P (sym w.0) e.0, each_sub P rs ss w.1 e.1)
+each_sub P (r ∷ rs) (s ∷ ss) (inr w) e = each_sub P (r ∷ rs) ss w e.1
+
+order_sub : (keys : List SortKey) (out rows : List Row) → IsSubsequence out rows → InOrder keys rows → InOrder keys out
+order_sub keys [] rows i o = tt
+order_sub keys (r ∷ rs) [] i o = absurd i
+order_sub keys (r ∷ rs) (s ∷ ss) (inl w) o = (subst (λ (x : Row). Each (NotBefore keys x) rs) (sym w.0) (each_sub (NotBefore keys s) rs ss w.1 o.0), order_sub keys rs ss w.1 o.1)
+order_sub keys (r ∷ rs) (s ∷ ss) (inr w) o = order_sub keys (r ∷ rs) ss w o.1
+
+-- the order of one input is kept
+pub dealt_order : (h : Hashing) (n : ℕ) (d : Declared) (ins outs : List (List Row)) → Dealt n ins outs → Meets h d.props ins → (j : ℕ) → InOrder (kept_order d.props.partitioning d.props.ordering) (part outs j)
+dealt_order h n d ins outs a m j = go (eqb (parts d) 1) refl
+  where
+    go : (b : Bool) → eqb (parts d) 1 ≡ b → InOrder (cond b d.props.ordering []) (part outs j)
+    go true e = order_sub d.props.ordering (part outs j) (part ins 0) (a.order (m.count ∙ eqb-true (parts d) 1 e) j) (m.ordered 0)
+    go false e = unordered (part outs j)
+
 pub repartition_meets : (h : Hashing) (cs : List ℕ) (n : ℕ) (d : Declared) (ins outs : List (List Row)) → Exchanged h cs n ins outs → Meets h d.props ins → Meets h (repartitioned (parting.Hash cs n) d).props outs
 repartition_meets h cs n d ins outs a m = record {
-  count = a.count ∙ sym (single_parts (parting.Hash cs n));
+  count = a.dealt.count ∙ sym (single_parts (parting.Hash cs n));
   hashed = λ j. each_map {P = λ r. h (cells_at cs r) % n ≡ j} {Q = Hashed h (or_single (parting.Hash cs n)) j} (part outs j) (λ r x. single_hashed h (parting.Hash cs n) j r x) (a.place j);
-  ordered = λ j. order j (eqb (parts d) 1) refl;
-  same = λ j. each_map {P = HoldsIn ins} {Q = PairsHold d.props.same} (part outs j) (λ r x. each_has (PairsHold d.props.same) (part ins x.0) r (m.same x.0) x.1) (a.from j);
+  ordered = dealt_order h n d ins outs a.dealt m;
+  same = λ j. each_map {P = HoldsIn ins} {Q = PairsHold d.props.same} (part outs j) (λ r x. each_has (PairsHold d.props.same) (part ins x.0) r (m.same x.0) x.1) (a.dealt.from j);
   constant = λ i j. each_map {P = HoldsIn ins} {Q = λ r. Each (Agree d.props.constants r) (part outs j)} (part outs i)
       (λ r x. each_map {P = HoldsIn ins} {Q = Agree d.props.constants r} (part outs j)
-      (λ s y. each_has (Agree d.props.constants r) (part ins y.0) s (each_has (λ r. Each (Agree d.props.constants r) (part ins y.0)) (part ins x.0) r (m.constant x.0 y.0) x.1) y.1) (a.from j))
-      (a.from i);
+      (λ s y. each_has (Agree d.props.constants r) (part ins y.0) s (each_has (λ r. Each (Agree d.props.constants r) (part ins y.0)) (part ins x.0) r (m.constant x.0 y.0) x.1) y.1) (a.dealt.from j))
+      (a.dealt.from i);
 }
-  where
-    order : (j : ℕ) (b : Bool) → eqb (parts d) 1 ≡ b → InOrder (cond b d.props.ordering []) (part outs j)
-    order j true e = a.order d.props.ordering (m.count ∙ eqb-true (parts d) 1 e) m.ordered j
-    order j false e = unordered (part outs j)
 
 -- ---- UnionAll
 

@@ -1,4 +1,5 @@
 -- The tasks of a start are those of the shape.
+use Rattle.std.specs.Prelude.{◌%◌}
 use Rattle.std.proofs.Common.{ℕ, zero, suc, ◌+◌, ◌<◌, ◌≡◌, refl, sym, ap, ◌∙◌, subst, List, [], ◌∷◌, ◌++◌, length, get_or, true, Option, Some, None, is_some, arith}
 use Rattle.std.proofs.lemmas.Bool.{false≢true}
 use Rattle.physical_plan.specs.declared.plan.Plan.{Plan}
@@ -7,12 +8,17 @@ use Rattle.core_frame.specs.Shape.{TaskShape, names, has, no_task}
 use Rattle.logical_plan.specs.Items.{Cells}
 use Rattle.task_trees.specs.Trees.{Tree, HasInlet, HasConsumer, gave_of}
 use Rattle.task_trees.specs.Tasks.{Split, Task, IsTask, IsOut}
-use Rattle.task_trees.specs.Runs.{AllTo, IsStart, no_task as nobody}
+use Rattle.task_trees.specs.Runs.{the_task, AllTo, IsStart, no_task as nobody}
+use Rattle.task_trees.specs.Batches.{SendsRows, IsFilled, AreFilled}
+use Rattle.task_trees.specs.Held.{IsApart, IsHolding}
+use Rattle.task_trees.specs.Exits.{HeadsOwn}
+use Rattle.whole_contents.specs.SenderKinds.{whole_split, hash_split}
+use Rattle.whole_contents.proofs.Received.{whole_rows, hash_rows}
 use Rattle.plan_tasks.specs.Trees.{Doing, Seed, partitions_of, stages_in}
-use Rattle.plan_tasks.specs.Tops.{Way, Written, Top, tops}
-use Rattle.plan_tasks.specs.Starts.{split_by, starting, tasks_by, consumers_in, seeds_of, tasks_in, start_of, tasks_of as start_tasks}
+use Rattle.plan_tasks.specs.Tops.{Way, Written, ByHash, InTurn, ToOne, ToOwn, Top, tops}
+use Rattle.plan_tasks.specs.Starts.{in_turn, split_by, starting, tasks_by, consumers_in, seeds_of, tasks_in, start_of, tasks_of as start_tasks}
 use Rattle.plan_tasks.specs.Reading.{AreOperators}
-use Rattle.plan_tasks.proofs.Fresh.{fresh_linked, gave_nothing}
+use Rattle.plan_tasks.proofs.Fresh.{fresh_linked, fresh_holds, gave_nothing}
 use Rattle.plan_tasks.proofs.Nodes.{IsPart}
 use Rattle.plan_tasks.proofs.Parts.{AreParts}
 use Rattle.plan_tasks.proofs.Aims.{Aims, AllAim, way_aims, written_aims}
@@ -26,6 +32,10 @@ pub record TaskFits (size : ℕ) (t : TaskShape) (k : Task) : Type 0 where
   pub sends : (split : Split) → k.split ≡ Some split → (g : ℕ) × (t.sends ≡ Some g) × ((j : ℕ) (b : List Cells) → AllTo (has t.targets) (split j b))
   pub splits : is_some k.split ≡ is_some t.sends
   pub task : IsTask size [] k
+  pub apart : IsApart k.tree
+  pub holds : IsHolding (λ c. 0) k.tree
+  pub heads : HeadsOwn k
+  pub filled : IsFilled k
 
 abbrev pub AllFit : ℕ → List TaskShape → List Task → Type 0
 AllFit size [] [] = Unit {0}
@@ -47,19 +57,48 @@ some_group : (o : Option ℕ) → true ≡ is_some o → (g : ℕ) × (o ≡ Som
 some_group None e = absurd (false≢true (sym e))
 some_group (Some g) e = (g, refl)
 
-task_fits : (size k m s c : ℕ) (p : Part) (seed : Seed) (split : Option Split) (ts : List ℕ) → IsPart k m p seed → Aims split ts → is_some split ≡ is_some (group_of s)
+starts_heads : (split : Option Split) (tree : Tree) → HeadsOwn (starting split tree)
+starts_heads None tree e = refl
+starts_heads (Some x) tree e = absurd (false≢true e)
+
+-- a batch that has rows is cut into parts that have rows
+abbrev Fills : Option Split → Type 0
+Fills o = (x : Split) → o ≡ Some x → SendsRows x
+
+some_is : (x y : Split) → Some x ≡ Some y → x ≡ y
+some_is x y e = cc
+
+turn_fills : (n i : ℕ) → SendsRows (in_turn n i)
+turn_fills zero i j b h = tt
+turn_fills (suc n) i j b h = whole_rows (λ j. (i + j) % suc n) j b h
+
+way_fills : (f : Doing) (w : Way) (i : ℕ) → Fills (split_by f w i)
+way_fills f Written i x e = cc
+way_fills f (ByHash columns n) i x e = subst SendsRows (some_is (hash_split (f.channel columns n) n) x e) (hash_rows (f.channel columns n) n)
+way_fills f (InTurn n) i x e = subst SendsRows (some_is (in_turn n i) x e) (turn_fills n i)
+way_fills f ToOne i x e = subst SendsRows (some_is (whole_split (λ j. 0)) x e) (whole_rows (λ j. 0))
+way_fills f ToOwn i x e = subst SendsRows (some_is (whole_split (λ j. i)) x e) (whole_rows (λ j. i))
+
+task_fits : (size k m s c : ℕ) (p : Part) (seed : Seed) (split : Option Split) (ts : List ℕ) → IsPart k m p seed → Aims split ts → Fills split → is_some split ≡ is_some (group_of s)
     → TaskFits size (record { stage = s; sends = group_of s; targets = ts; receives = p.receives; consumers = numbers_from c (length p.consumers) }) (starting split (seed.tree c))
-task_fits size k m s c p seed split ts h a e = record {
+task_fits size k m s c p seed split ts h a r e = record {
   inlets = λ g d i. count_names p.receives g d (reads_has (seed.tree c) p.receives g d (h.reads c) i);
   consumers = λ d i. count_has (numbers_from c (length p.consumers)) d (reserves_has (seed.tree c) (numbers_from c (length p.consumers)) d (h.reserves c) i);
   sends = λ x q. (let g = some_group (group_of s) (sym (ap is_some q) ∙ e) in (g.0, g.1, a x q));
   splits = e;
   task = record {
-    linked = fresh_linked size (seed.tree c) (h.fresh c) (is_apart (seed.tree c) p.receives (numbers_from c (length p.consumers)) (h.reads c) (h.reserves c) h.once (numbers_once c (length p.consumers)));
+    linked = fresh_linked size (seed.tree c) (h.fresh c) apart;
     out = starts_out split (seed.tree c) (gave_nothing (seed.tree c) (h.fresh c));
     left = λ x d. absurd (false≢true x);
   };
+  apart = apart;
+  holds = fresh_holds (seed.tree c) (h.fresh c);
+  heads = starts_heads split (seed.tree c);
+  filled = record { split = r; parts = tt };
 }
+  where
+    apart : IsApart (seed.tree c)
+    apart = is_apart (seed.tree c) p.receives (numbers_from c (length p.consumers)) (h.reads c) (h.reserves c) h.once (numbers_once c (length p.consumers))
 
 stage_fits : (size k m s i c : ℕ) (ps : List Part) (ss : List Seed) (f : Doing) (w : Way) (ts : List (List ℕ)) → AreParts k m ps ss → AllAim w i ps ts → ((j : ℕ) → is_some (split_by f w j) ≡ is_some (group_of s))
     → AllFit size (tasks_of s c ps ts) (tasks_by (split_by f w) i c ss)
@@ -67,7 +106,7 @@ stage_fits size k m s i c [] [] f w ts h a e = tt
 stage_fits size k m s i c [] (x ∷ ss) f w ts h a e = absurd h
 stage_fits size k m s i c (p ∷ ps) [] f w ts h a e = absurd h
 stage_fits size k m s i c (p ∷ ps) (x ∷ ss) f w ts h a e = (
-  task_fits size k m s c p x (split_by f w i) (head_or ts) h.0 (subst (λ (xs : List ℕ). Aims (split_by f w i) xs) (sym a.0) (way_aims f w i)) (e i),
+  task_fits size k m s c p x (split_by f w i) (head_or ts) h.0 (subst (λ (xs : List ℕ). Aims (split_by f w i) xs) (sym a.0) (way_aims f w i)) (way_fills f w i) (e i),
   subst (λ (n : ℕ). AllFit size (tasks_of s (c + length p.consumers) ps (tail_of ts)) (tasks_by (split_by f w) (i + 1) (c + n) ss)) (sym (ap length h.0.consumers))
       (stage_fits size k m s (i + 1) (c + length p.consumers) ps ss f w (tail_of ts) h.1 a.1 e),
 )
@@ -114,6 +153,10 @@ nobody_fits size = record {
   sends = λ split e. absurd (false≢true (ap is_some e));
   splits = refl;
   task = record { linked = tt; out = (refl, refl, refl); left = λ e c. absurd (false≢true e) };
+  apart = tt;
+  holds = tt;
+  heads = λ e. refl;
+  filled = record { split = λ x e. absurd (false≢true (ap is_some e)); parts = tt };
 }
 
 pub fit_at : (size : ℕ) (ts : List TaskShape) (ks : List Task) (t : ℕ) → AllFit size ts ks → TaskFits size (get_or ts t no_task) (get_or ks t nobody)
@@ -138,3 +181,16 @@ is_start f are p size limit =
       task = λ t. (fit_at size (shape p).tasks (start_tasks f p) t h).task;
       fits = λ t. (let k = fit_at size (shape p).tasks (start_tasks f p) t h in record { inlets = k.inlets; consumers = k.consumers; sends = k.sends });
     }
+
+-- the task of the start with this number, as the shape has it
+start_fits : (f : Doing) → AreOperators f → (p : Plan) (t : ℕ) → TaskFits 0 (get_or (shape p).tasks t no_task) (the_task (start_tasks f p) t)
+start_fits f are p t = fit_at 0 (shape p).tasks (start_tasks f p) t (all_fit f are 0 p)
+
+pub begins : (f : Doing) → AreOperators f → (p : Plan) (t : ℕ) → IsApart (the_task (start_tasks f p) t).tree × IsHolding (λ c. 0) (the_task (start_tasks f p) t).tree
+begins f are p t = (let k = start_fits f are p t in (k.apart, k.holds))
+
+pub heads : (f : Doing) → AreOperators f → (p : Plan) (t : ℕ) → HeadsOwn (the_task (start_tasks f p) t)
+heads f are p t = (start_fits f are p t).heads
+
+pub filled : (f : Doing) → AreOperators f → (p : Plan) → AreFilled (start_tasks f p)
+filled f are p t = (start_fits f are p t).filled

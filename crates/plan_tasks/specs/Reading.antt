@@ -5,8 +5,9 @@ use Rattle.physical_plan.specs.declared.plan.Plan.TheOpen.{Plan-F}
 use Rattle.physical_plan.specs.Layout.{Part, numbers_from}
 use Rattle.logical_plan.specs.Items.{concat}
 use Rattle.task_trees.specs.Operators.{IsOp}
-use Rattle.task_trees.specs.Trees.{File, Tree, Nothing, Files, Inlet, Node, HasInlet, HasConsumer}
+use Rattle.task_trees.specs.Trees.{File, Tree, Nothing, Files, Inlet, Node, HasInlet}
 use Rattle.task_trees.specs.Linked.{IsLinked}
+use Rattle.task_trees.specs.Held.{IsApart}
 use Rattle.plan_tasks.specs.Trees.{Doing, reserving}
 
 -- the tree reads these channels, by group then channel, left to right
@@ -33,15 +34,6 @@ Opens Nothing fs = fs ≡ []
 Opens (Files all files gave unread) fs = fs ≡ files
 Opens (Inlet g c gave unread over) fs = fs ≡ []
 Opens (Node op t d inputs) fs = (parts : List (List File)) × ((i : ℕ) → Opens (inputs i) (slice_index_or parts i [])) × (fs ≡ concat parts)
-
--- no channel is read twice, and no two operators have one consumer
-abbrev pub IsApart : Tree → Type 0
-IsApart (Node op t d inputs) =
-    ((i j g c : ℕ) → HasInlet g c (inputs i) → HasInlet g c (inputs j) → i ≡ j)
-    × ((i j c : ℕ) → HasConsumer c (inputs i) → HasConsumer c (inputs j) → i ≡ j)
-    × ((i c : ℕ) → op.consumer ≡ Some c → HasConsumer c (inputs i) → ⊥)
-    × ((i : ℕ) → IsApart (inputs i))
-IsApart _ = Unit {0}
 
 -- the tree of a layout's partition, from the next stage k and the next consumer c, where the stages below m open in it: it reads the
 -- partition's channels, in order, and has its consumers, numbered from c; each is at one place; and nothing was asked of it

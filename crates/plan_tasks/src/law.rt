@@ -8,8 +8,11 @@ ghost use Rattle.physical_plan.specs.Layout.{Part, bare, numbers_from, layout, s
 ghost use Rattle.core_frame.specs.Shape.{task_at, names, has, is_group, width};
 ghost use Rattle.task_trees.specs.Trees.{File, Tree, Nothing, HasInlet, HasConsumer};
 ghost use Rattle.task_trees.specs.Runs.{IsStart, the_task};
+ghost use Rattle.task_trees.specs.Batches.{AreFilled};
+ghost use Rattle.task_trees.specs.Held.{IsApart, IsHolding};
+ghost use Rattle.task_trees.specs.Exits.{HeadsOwn};
 ghost use Rattle.whole_contents.specs.Bags.{SameBag, sum_below};
-ghost use Rattle.whole_contents.specs.Senders.{AreSenders, IsOnlySender};
+ghost use Rattle.whole_contents.specs.Senders.{AreSenders, IsOnlySender, IsLoneSender};
 ghost use Rattle.plan_tasks.specs.Trees.{Doing, Growing, grow, leaf, count_stages, stages_in, count_sources, sources_in, partitions_of, At, tree_of};
 ghost use Rattle.plan_tasks.specs.Branches.{seed_at, width_at, branch, IsEven};
 ghost use Rattle.plan_tasks.specs.Tops.{Top, Topping, ToOwn, top_node, tops, all_tops, width_by};
@@ -55,12 +58,18 @@ pub fn operators_law()
 {}
 
 /// The start of a plan is one of its shape, for every plan, whatever its operators, files and hashes are (`start`). A task sends just where it
-/// has a split (`splits`). Each consumer can spill as its node says (`spillable`).
+/// has a split (`splits`). Each consumer can spill as its node says (`spillable`). The operators of a task have different consumers and
+/// hold nothing yet (`begins`), only a task that writes has a header to write (`heads`), and no task cuts a batch that has rows into
+/// empty parts (`filled`).
 pub fn start_law()
     ensures start { (f : Doing) → AreOperators f → (p : Plan) (size limit : ℕ) → IsStart (shape p) size limit (start_of f p limit) }
     ensures splits { (f : Doing) → AreOperators f → (p : Plan) (t : ℕ)
         → is_some (the_task (tasks_of f p) t).split ≡ is_some (task_at (shape p) t).sends }
     ensures spillable { (f : Doing) → AreOperators f → (p : Plan) → (shape p).spillable ≡ consumers_over f (all_tops p) }
+    ensures begins { (f : Doing) → AreOperators f → (p : Plan) (t : ℕ)
+        → IsApart (the_task (tasks_of f p) t).tree × IsHolding (λ c. 0) (the_task (tasks_of f p) t).tree }
+    ensures heads { (f : Doing) → AreOperators f → (p : Plan) (t : ℕ) → HeadsOwn (the_task (tasks_of f p) t) }
+    ensures filled { (f : Doing) → AreOperators f → (p : Plan) → AreFilled (tasks_of f p) }
 {}
 
 /// Each task is a partition of some stage (`covered`), and the partitions of a stage are tasks one after the other, in their order (`placed`).
@@ -79,12 +88,16 @@ pub fn stages_law()
 {}
 
 /// Each task that sends does so in one of the known ways (`senders`), where hashes give channels and each exchange has one. A partition of
-/// a merging stage is the only sender of its channel (`own`).
+/// a merging stage is the only sender of its channel (`own`). The partition of a stage that has one alone sends to the stage's group, in
+/// order (`lone`).
 pub fn senders_law()
     ensures senders { (f : Doing) → AreOperators f → IsHashing f → (p : Plan) → HasChannels p → AreSenders (shape p) (tasks_of f p) (deal_of f p) }
     ensures own { (f : Doing) → AreOperators f → (p : Plan) (before after : List Top) (t : Top) → all_tops p ≡ before ++ t ∷ after
         → 0 < t.stage → t.way ≡ ToOwn → (i : ℕ) → i < length (seeds_of f t)
         → IsOnlySender (shape p) (tasks_of f p) (deal_of f p) (tasks_before f before + i) t.stage i }
+    ensures lone { (f : Doing) → AreOperators f → (p : Plan) (before after : List Top) (t : Top) → all_tops p ≡ before ++ t ∷ after
+        → 0 < t.stage → length (seeds_of f t) ≡ 1 → (i : ℕ) → i < length (seeds_of f t)
+        → IsLoneSender (shape p) (tasks_of f p) (deal_of f p) (tasks_before f before + i) t.stage }
 {}
 
 /// The files of a plan's scans have the sources from 0 on, in plan order (`numbered`), and each has the items of its table's file (`named`). Where

@@ -1,7 +1,7 @@
 -- What a test says names the columns of the test, and what the law of needs asks of a node's columns follows.
 use Rattle.std.specs.Prelude.{nat_lt}
-use Rattle.std.proofs.Common.{ℕ, ◌≡◌, ◌<◌, refl, sym, ap, ◌∙◌, subst, eqb, Bool, true, false, Option, Some, None, List, [], ◌∷◌, map}
-use Rattle.std.proofs.lemmas.Bool.{ltb-true, eqb-true}
+use Rattle.std.proofs.Common.{ℕ, ◌≡◌, ◌<◌, refl, sym, ap, ◌∙◌, subst, eqb, Bool, true, false, ◌&&◌, Option, Some, None, List, [], ◌∷◌, map}
+use Rattle.std.proofs.lemmas.Bool.{lt-ltb, eqb-true, eq-eqb}
 use Rattle.dfx_value.specs.declared.op.Op.{Op}
 use Rattle.dfx_value.specs.declared.op.Op.TheVariants as op
 use Rattle.scalar_exprs.specs.declared.expr.Expr.{Expr}
@@ -10,23 +10,24 @@ use Rattle.scalar_exprs.specs.declared.expr.Expr.TheViews.{roll-Expr}
 use Rattle.scalar_exprs.specs.declared.expr.Expr.TheFolds.{map-Expr, ind-Expr}
 use Rattle.scalar_exprs.specs.declared.expr.Expr.TheVariants.{Column, rolls-Column, rolls-Const, rolls-Not, rolls-Neg, rolls-IsNull, rolls-Binary, rolls-Case, rolls-Coalesce, rolls-Cast, rolls-Abs, rolls-Length}
 use Rattle.physical_plan.specs.declared.facts.Fact.{Fact}
+use Rattle.physical_plan.specs.declared.plan.Plan.{Plan}
 use Rattle.physical_plan.specs.declared.plan.Plan.TheOpen.{Plan-F}
+use Rattle.physical_plan.specs.Planned.{everywhere}
 use Rattle.physical_plan.specs.Facts.{nothing, equals_at, is_null_at, compared, fact_of}
 use Rattle.physical_plan.specs.Joins.{Within, PairsWithin}
 use Rattle.physical_plan.specs.Properties.{declared_of, left_keys, right_keys, first_width}
-use Rattle.physical_plan.proofs.Everywhere.{and_parts}
+use Rattle.physical_plan.proofs.Everywhere.{both_true, and_parts}
+use Rattle.physical_plan.proofs.Weaker.{weaker}
 use Rattle.physical_plan.proofs.ExprFacts.{fact-Column, fact-Const, fact-Not, fact-Neg, fact-IsNull, fact-Binary, fact-Case, fact-Coalesce, fact-Cast, fact-Abs, fact-Length}
 use Rattle.join_lowering.specs.Keys.{columns}
 use Rattle.join_lowering.proofs.Nodes.{columns-Column, columns-IsNull, columns-Binary}
 use Rattle.node_laws.specs.Nodes.{PlanInput, plans_of, inputs_of, declared_inputs, HaveWidth, InRange}
+use Rattle.node_laws.specs.Tests.{pairs_below, have_width, needs_in_range}
 use Rattle.node_laws.proofs.Ranges.{within_append, pairs_within_append}
+use Rattle.node_laws.proofs.Tested.{within}
 use Rattle.range_laws.specs.Ranges.{are_below, are_all, are_equal, rest_columns, width, in_range}
 use Rattle.range_laws.proofs.Below.{below_split}
 use Rattle.range_laws.proofs.Orders.{join_parts}
-
-pub within : (w : ℕ) (cs : List ℕ) → are_below w cs ≡ true → Within w cs
-within w [] h = tt
-within w (c ∷ cs) h = let a = and_parts (nat_lt c w) (are_below w cs) h in (ltb-true c w a.0, within w cs a.1)
 
 -- ---- facts
 
@@ -101,3 +102,36 @@ ranges_of (Plan-F.Filter i test) h = let s = factual (width i.0) test h in (s.pa
 ranges_of (Plan-F.HashJoin kind i j keys rest) h = let a = join_parts (width i.0) (width j.0) (left_keys keys) (right_keys keys) (rest_columns rest) h in (within (width i.0) (left_keys keys) a.0, within (width j.0) (right_keys keys) a.1)
 ranges_of (Plan-F.UnionAll is) h = union_widths is h
 ranges_of _ h = tt
+
+-- ---- the test of needs says less
+
+are_within : (w : ℕ) (cs : List ℕ) → Within w cs → are_below w cs ≡ true
+are_within w [] h = refl
+are_within w (c ∷ cs) h = both_true (nat_lt c w) (are_below w cs) (lt-ltb c w h.0) (are_within w cs h.1)
+
+pairs_are_within : (w : ℕ) (ps : List (ℕ × ℕ)) → PairsWithin w ps → pairs_below w ps ≡ true
+pairs_are_within w [] h = refl
+pairs_are_within w (p ∷ ps) h = both_true (nat_lt p.0 w) (nat_lt p.1 w && pairs_below w ps) (lt-ltb p.0 w h.0) (both_true (nat_lt p.1 w) (pairs_below w ps) (lt-ltb p.1 w h.1) (pairs_are_within w ps h.2))
+
+equal_widths : (w v : ℕ) (ps : List Plan) → v ≡ w → are_all v (map width ps) ≡ true → have_width w ps ≡ true
+equal_widths w v [] e h = refl
+equal_widths w v (p ∷ ps) e h =
+    let a = and_parts (eqb (width p) v) (are_all v (map width ps)) h in
+    both_true (eqb (width p) w) (have_width w ps) (eq-eqb (width p) w (eqb-true (width p) v a.0 ∙ e)) (equal_widths w v ps e a.1)
+
+first_widths : (ps : List Plan) → are_equal (map width ps) ≡ true → have_width (first_width (map declared_of ps)) ps ≡ true
+first_widths [] h = refl
+first_widths (p ∷ ps) h = both_true (eqb (width p) (width p)) (have_width (width p) ps) (eq-eqb (width p) (width p) refl) (equal_widths (width p) (width p) ps refl h)
+
+needs_ranged : (z : Plan-F Plan) → in_range z ≡ true → needs_in_range z ≡ true
+needs_ranged (Plan-F.Filter p test) h =
+    let s = factual (width p) test h in
+    both_true (pairs_below (width p) (fact_of test).same) (are_below (width p) (fact_of test).constants) (pairs_are_within (width p) (fact_of test).same s.pairs) (are_within (width p) (fact_of test).constants s.constants)
+needs_ranged (Plan-F.HashJoin kind p q keys rest) h =
+    let a = join_parts (width p) (width q) (left_keys keys) (right_keys keys) (rest_columns rest) h in
+    both_true (are_below (width p) (left_keys keys)) (are_below (width q) (right_keys keys)) a.0 a.1
+needs_ranged (Plan-F.UnionAll ps) h = first_widths ps h
+needs_ranged _ h = refl
+
+pub all_needs_ranged : (p : Plan) → everywhere in_range p ≡ true → everywhere needs_in_range p ≡ true
+all_needs_ranged = weaker in_range needs_in_range needs_ranged

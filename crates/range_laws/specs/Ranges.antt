@@ -1,5 +1,5 @@
 -- Meaning: plans whose columns are in range: each lies below the number of columns of the input that it is a column of.
-use Rattle.std.specs.Prelude.{ℕ, ◌+◌, ◌==◌, Bool, true, ◌&&◌, nat_lt, Option, Some, None, List, [], ◌∷◌, ◌++◌, length, map, sum}
+use Rattle.std.specs.Prelude.{ℕ, ◌+◌, ◌==◌, Bool, true, ◌&&◌, Option, Some, None, List, [], ◌∷◌, ◌++◌, length, map, sum}
 use Rattle.dfx_value.specs.declared.rows.SortKey.{SortKey}
 use Rattle.dfx_value.specs.declared.op.AggCall.{AggCall}
 use Rattle.dfx_value.specs.declared.op.AggCall.TheVariants.{CountAll, Count, Sum, Min, Max, Avg}
@@ -7,17 +7,12 @@ use Rattle.plan_props.specs.declared.properties.Partitioning.{Partitioning}
 use Rattle.plan_props.specs.declared.properties.Partitioning.TheVariants as parting
 use Rattle.scalar_exprs.specs.declared.expr.Expr.{Expr}
 use Rattle.join_lowering.specs.Keys.{columns}
-use Rattle.physical_plan.specs.declared.plan.Plan.{Plan}
 use Rattle.physical_plan.specs.declared.plan.Plan.TheOpen.{Plan-F}
-use Rattle.physical_plan.specs.Properties.{declared_of, state_width, left_keys, right_keys}
+use Rattle.physical_plan.specs.Properties.{state_width, left_keys, right_keys}
 use Rattle.physical_plan.specs.Planned.{Test}
+pub use Rattle.node_laws.specs.Tests.{width, are_below}
 
 -- ---- lists of columns
-
--- each is below a number
-abbrev pub are_below : ℕ → List ℕ → Bool
-are_below w [] = true
-are_below w (c ∷ cs) = nat_lt c w && are_below w cs
 
 abbrev pub key_columns : List SortKey → List ℕ
 key_columns keys = map (λ (k : SortKey). k.column) keys
@@ -59,10 +54,6 @@ are_equal [] = true
 are_equal (w ∷ ws) = are_all w ws
 
 -- ---- plans
-
--- how many columns the rows of a plan have
-abbrev pub width : Plan → ℕ
-width p = (declared_of p).width
 
 -- the columns of a node are in range; a FinalGroup stands on the keys and then the states, and the inputs of a union have one width
 abbrev pub in_range : Test

@@ -6,6 +6,7 @@ ghost use Rattle.plan_props.specs.Meets.{Hashing, IsHash};
 ghost use Rattle.physical_plan.specs.declared.plan.Plan.TheOpen.{Plan-F as Node};
 ghost use Rattle.physical_plan.specs.Planned.{everywhere, kids, spread_needs, order_needs};
 ghost use Rattle.node_laws.specs.Nodes.{PlanInput, plans_of, inputs_of, AllStand, NodeNeeds, InRange};
+ghost use Rattle.node_laws.specs.Tests.{needs_in_range};
 ghost use Rattle.physical_build.specs.Build.{build};
 ghost use Rattle.enforce_dist.specs.Distribute.{enforce_distribution};
 ghost use Rattle.enforce_sort.specs.Arrange.{enforce_sorting};
@@ -26,6 +27,7 @@ pub fn pass_law()
 /// plan of a query whose columns are in range, the node's needs are met by rows of which that stands.
 pub fn column_law()
     ensures ranges { (node : Node PlanInput) → in_range (plans_of node) ≡ true → InRange (inputs_of node) }
+    ensures tests { (p : APlan) → everywhere in_range p ≡ true → everywhere needs_in_range p ≡ true }
     ensures needs { (h : Hashing) → IsHash h → (n : ℕ) (node : Node PlanInput)
         → AllStand h (kids (inputs_of node)) → in_range (plans_of node) ≡ true
         → spread_needs n (plans_of node) ≡ true → order_needs (plans_of node) ≡ true

@@ -6,4 +6,6 @@ pub mod Made
 pub mod Told
 pub mod Reserved
 pub mod Laws
+pub mod Carried
+pub mod Taken
 pub mod Worked

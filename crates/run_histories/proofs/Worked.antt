@@ -1,5 +1,5 @@
 -- The worked runs of the README, computed from the definitions.
-use Rattle.std.proofs.Common.{ℕ, ◌≡◌, refl, List, [], ◌∷◌, Option, Some, None, true, false}
+use Rattle.std.proofs.Common.{ℕ, ◌≡◌, refl, List, [], ◌∷◌, map, Option, Some, None, IfSome, Bool, true, false, ltb}
 use Rattle.run_journal.specs.declared.entry.Entry.{Entry}
 use Rattle.run_journal.specs.declared.entry.EntryKind.{EntryKind}
 use Rattle.run_journal.specs.declared.entry.EntryKind.TheVariants.{Claimed, Scanned, Received, Empty, Ended as EndedKind, Sent, Held, Dropped, Granted, Refused as RefusedKind, Freed, Wrote, Finished}
@@ -7,10 +7,14 @@ use Rattle.gate_channels.specs.Gate.{sent, received, ended, awaited, dropped, he
 use Rattle.fair_pool.specs.Share.{held_by, share_of, grants}
 use Rattle.core_frame.specs.Shape.{Shape, IsShape}
 use Rattle.core_frame.specs.Step.{Need, Scan, Recv, Send, Grow, Free, Writes, Finish, wake, put_gate, with_pool, move_to, progress_is, failed}
+use Rattle.core_frame.specs.Carried.{map_step}
+use Rattle.core_frame.specs.Sent.{Passes, SendsFit}
 use Rattle.core_frame.proofs.ShapeTest.{is_shape}
 use Rattle.run_histories.specs.Histories.{Go, Batch, Ended, Gone, Past, past_of, Run, begun, next_run, run_replay}
 use Rattle.run_histories.specs.Contents.{took, has_end, parts_sent}
 use Rattle.run_histories.specs.Reserved.{kept}
+use Rattle.run_histories.specs.Taken.{RunFits}
+use Rattle.run_histories.proofs.Taken.{run_fits, begun_fits}
 
 by : ℕ → EntryKind → Entry
 by t k = record { worker = 0; task = t; kind = k }
@@ -19,7 +23,7 @@ by t k = record { worker = 0; task = t; kind = k }
 beside : ℕ → EntryKind → Entry
 beside t k = record { worker = 1; task = t; kind = k }
 
-pasts_of : Option (Run ℕ) → List (Past ℕ)
+pasts_of : {B : Type 0} → Option (Run B) → List (Past B)
 pasts_of None = []
 pasts_of (Some r) = r.pasts
 
@@ -129,3 +133,35 @@ one_sort_held : after_each one_sort (Some (begun one_sort 32)) one_sort_run ≡
     ∷ (0 ∷ 0 ∷ []) ∷ (16 ∷ 16 ∷ []) ∷ (32 ∷ 32 ∷ []) ∷ (0 ∷ 32 ∷ []) ∷ []
 unfolding one_sort by one_sort_run held_and_kept after_each wake put_gate with_pool move_to progress_is failed share_of grants
 one_sort_held = refl
+
+-- ------------------------------------------------------------ the run of the Merge over other batches
+
+-- each number is a list of one
+list_of : ℕ → List ℕ
+list_of b = b ∷ []
+
+lists_pasts : pasts_of (run_replay one_fans (Some (begun one_fans 1000)) (map (map_step list_of) one_fans_run)) ≡
+    [] ∷ [] ∷ ((Recv 2 1, Batch (7 ∷ [])) ∷ [])
+    ∷ ((Scan, Go) ∷ (Send 0 (5 ∷ []), Go) ∷ (Send 0 (6 ∷ []), Gone false) ∷ (Send 1 (7 ∷ []), Go) ∷ (Send 1 (8 ∷ []), Gone true) ∷ []) ∷ []
+unfolding one_fans by beside one_fans_run list_of pasts_of sent received ended awaited held dropped wake put_gate with_pool move_to progress_is failed
+lists_pasts = refl
+
+-- ------------------------------------------------------------ what may be sent, and so what was taken
+
+-- numbers above 10 may be in each channel
+above_ten : ℕ → ℕ → ℕ → Bool
+above_ten g c b = ltb 10 b
+
+takes_eleven : List (Entry × Need ℕ)
+takes_eleven = (by 1 Claimed, Scan) ∷ (by 1 Sent, Send 0 11) ∷ (beside 0 Claimed, Scan) ∷ (beside 0 Received, Recv 1 0) ∷ []
+
+eleven_fits : SendsFit two_scans (Passes above_ten) takes_eleven
+unfolding two_scans takes_eleven above_ten by beside
+eleven_fits = (tt, (λ g e. refl, (tt, (tt, tt))))
+
+eleven_taken : took 1 0 (past_of (pasts_of (run_replay two_scans (Some (begun two_scans 1000)) takes_eleven)) 0) ≡ 11 ∷ []
+unfolding two_scans by beside takes_eleven pasts_of sent received ended awaited held dropped wake put_gate with_pool move_to progress_is failed
+eleven_taken = refl
+
+taken_fits : IfSome (run_replay two_scans (Some (begun two_scans 1000)) takes_eleven) (RunFits (Passes above_ten))
+taken_fits = run_fits (Passes above_ten) two_scans (Some (begun two_scans 1000)) takes_eleven eleven_fits (begun_fits (Passes above_ten) two_scans 1000)

@@ -1,4 +1,7 @@
-use crate::{held_opening, held_step, histories_law, recorded_opening, recorded_step};
+use crate::{
+    carried_runs_law, held_opening, held_step, histories_law, recorded_opening, recorded_step,
+    taken_law,
+};
 
 // The laws at a type of batches: calls of them do nothing.
 #[test]
@@ -8,4 +11,6 @@ fn laws_hold_at_a_type() {
     recorded_step::<u32>();
     held_opening::<u32>();
     held_step::<u32>();
+    carried_runs_law::<u32, u64>();
+    taken_law::<u32>();
 }

@@ -13,6 +13,8 @@ use Rattle.task_trees.specs.Operators.{IsFront, Reads}
 use Rattle.task_trees.specs.OperatorKinds.{cut, has_cut}
 use Rattle.sorted_answers.specs.Sorting.{row_before}
 use Rattle.whole_contents.specs.Bags.{Alike}
+use Rattle.whole_contents.proofs.Items.{rows-append, rows_of_rows, faults_of_rows}
+pub use Rattle.whole_contents.proofs.Items.{rows_of_rows as rows_back}
 use Rattle.sorted_answers.proofs.Bags.{with_faults, arranged_as}
 use Rattle.sorted_answers.proofs.Sorts.{Ascends}
 use Rattle.sorted_answers.proofs.Rows.{ascends, is_in_order, part_permuted}
@@ -68,22 +70,14 @@ clean order offset limit out items same sorted none =
 
 -- ---- rows that a limit took
 
-pub rows_back : (rs : List Cells) → rows (of_rows rs) ≡ rs
-rows_back [] = refl
-rows_back (r ∷ rs) = ap (λ ss. r ∷ ss) (rows_back rs)
-
-no_faults : (rs : List Cells) → faults (of_rows rs) ≡ []
-no_faults [] = refl
-no_faults (r ∷ rs) = no_faults rs
-
 rows_taken : (n : ℕ) (rs : List Cells) → rows (take n (of_rows rs)) ≡ take n rs
-rows_taken n rs = ap rows (take-map (λ r. Ok r) n rs) ∙ rows_back (take n rs)
+rows_taken n rs = ap rows (take-map (λ r. Ok r) n rs) ∙ rows_of_rows (take n rs)
 
 rows_dropped : (n : ℕ) (rs : List Cells) → rows (drop n (of_rows rs)) ≡ drop n rs
-rows_dropped n rs = ap rows (drop-map (λ r. Ok r) n rs) ∙ rows_back (drop n rs)
+rows_dropped n rs = ap rows (drop-map (λ r. Ok r) n rs) ∙ rows_of_rows (drop n rs)
 
 taken_no_faults : (n : ℕ) (rs : List Cells) → faults (take n (of_rows rs)) ≡ []
-taken_no_faults n rs = ap faults (take-map (λ r. Ok r) n rs) ∙ no_faults (take n rs)
+taken_no_faults n rs = ap faults (take-map (λ r. Ok r) n rs) ∙ faults_of_rows (take n rs)
 
 cut_rows : (skip n : ℕ) (rs : List Cells) → rows (take n (drop skip (of_rows rs))) ≡ drop skip (rows (take (skip + n) (of_rows rs)))
 cut_rows skip n rs =
@@ -93,8 +87,8 @@ cut_rows skip n rs =
 pub taken_all : (order : List SortKey) (skip : ℕ) (fetch : Option ℕ) (taken : List Cells) (out items : List Item)
     → of_rows taken ≡ out → Alike out items → IsSorted (row_cmp order) (rows out) → Allows order skip fetch items (rows (cut skip fetch (of_rows taken)))
 taken_all order skip None taken out items e same sorted =
-    subst (Allows order skip None items) (ap (λ is. drop skip (rows is)) (sym e) ∙ (ap (drop skip) (rows_back taken) ∙ sym (rows_dropped skip taken)))
-    (clean order skip None out items same sorted (subst (λ is. faults is ≡ []) e (no_faults taken)))
+    subst (Allows order skip None items) (ap (λ is. drop skip (rows is)) (sym e) ∙ (ap (drop skip) (rows_of_rows taken) ∙ sym (rows_dropped skip taken)))
+    (clean order skip None out items same sorted (subst (λ is. faults is ≡ []) e (faults_of_rows taken)))
 taken_all order skip (Some n) taken out items e same sorted =
     subst (Allows order skip (Some n) items) (ap (λ is. drop skip (rows (take (skip + n) is))) (sym e) ∙ sym (cut_rows skip n taken))
     (clean order skip (Some n) out items same sorted (subst (λ is. faults (take (skip + n) is) ≡ []) e (taken_no_faults (skip + n) taken)))
@@ -121,7 +115,7 @@ limit_taken order skip (Some n) taken false out items reads done same sorted = b
 
 pub all_given : (order : List SortKey) (given : List Cells) (items : List Item) → Alike (of_rows given) items → IsSorted (row_cmp order) given → Allows order 0 None items given
 all_given order given items same sorted =
-    subst (Allows order 0 None items) (rows_back given) (clean order 0 None (of_rows given) items same (subst (IsSorted (row_cmp order)) (sym (rows_back given)) sorted) (no_faults given))
+    subst (Allows order 0 None items) (rows_of_rows given) (clean order 0 None (of_rows given) items same (subst (IsSorted (row_cmp order)) (sym (rows_of_rows given)) sorted) (faults_of_rows given))
 
 -- ---- the answer in another order
 
@@ -143,11 +137,6 @@ only_rows : (xs : List Item) → faults xs ≡ [] → of_rows (rows xs) ≡ xs
 only_rows [] e = refl
 only_rows (Ok r ∷ xs) e = ap (λ is. Ok r ∷ is) (only_rows xs e)
 only_rows (Err f ∷ xs) e = cc
-
-pub rows-append : (xs ys : List Item) → rows (xs ++ ys) ≡ rows xs ++ rows ys
-rows-append [] ys = refl
-rows-append (Ok r ∷ xs) ys = ap (λ zs. r ∷ zs) (rows-append xs ys)
-rows-append (Err f ∷ xs) ys = rows-append xs ys
 
 -- the items behind the first ones
 behind : ℕ → Option ℕ → List Item → List Item
@@ -180,9 +169,9 @@ another order offset limit items answer other a p sorted =
     ∙ (ap length (take-append-drop offset (rows first)) ∙ (sym (length-map (rows first) (λ r. Ok r)) ∙ ap length those))))) in
     let first_new : first_of offset limit (of_rows (front ++ other) ++ back) ≡ of_rows (front ++ other) = first_is offset limit xs (of_rows (front ++ other)) as_long in
     let rows_old : rows xs ≡ front ++ (drop offset (rows first) ++ rows back) =
-    ap rows (sym whole) ∙ (rows-append (of_rows (front ++ drop offset (rows first))) back ∙ (ap (λ rs. rs ++ rows back) (rows_back (front ++ drop offset (rows first))) ∙ append_assoc front (drop offset (rows first)) (rows back))) in
+    ap rows (sym whole) ∙ (rows-append (of_rows (front ++ drop offset (rows first))) back ∙ (ap (λ rs. rs ++ rows back) (rows_of_rows (front ++ drop offset (rows first))) ∙ append_assoc front (drop offset (rows first)) (rows back))) in
     let rows_new : rows (of_rows (front ++ other) ++ back) ≡ front ++ (other ++ rows back) =
-    rows-append (of_rows (front ++ other)) back ∙ (ap (λ rs. rs ++ rows back) (rows_back (front ++ other)) ∙ append_assoc front other (rows back)) in
+    rows-append (of_rows (front ++ other)) back ∙ (ap (λ rs. rs ++ rows back) (rows_of_rows (front ++ other)) ∙ append_assoc front other (rows back)) in
     record {
       arranged = of_rows (front ++ other) ++ back;
       same = IsPermutation-trans (of_rows (front ++ other) ++ back) xs items
@@ -195,8 +184,8 @@ another order offset limit items answer other a p sorted =
         sorted = is_in_order order (rows (of_rows (front ++ other) ++ back)) (subst (λ rs. Ascends (row_before order) rs) (sym rows_new)
             (part_permuted (row_before order) front (drop offset (rows first)) other (rows back) q (ascends order other sorted)
             (subst (λ rs. Ascends (row_before order) rs) rows_old (ascends order (rows xs) a.answers.sorted))));
-        clean = ap faults first_new ∙ no_faults (front ++ other);
-        cut = sym (drop_front offset (rows first) other long) ∙ (ap (drop offset) (sym (rows_back (front ++ other))) ∙ ap (λ is. drop offset (rows is)) (sym first_new));
+        clean = ap faults first_new ∙ faults_of_rows (front ++ other);
+        cut = sym (drop_front offset (rows first) other long) ∙ (ap (drop offset) (sym (rows_of_rows (front ++ other))) ∙ ap (λ is. drop offset (rows is)) (sym first_new));
       };
     }
 

@@ -15,7 +15,8 @@ use Rattle.task_trees.specs.Trees.{Tree, Desk, Node, Poll, Gives, Ends, Moves, A
 use Rattle.task_trees.specs.Linked.{whole, IsLinked, IsWhole, waiting}
 use Rattle.sorted_answers.specs.Sorting.{sorted, row_before, sort_items}
 use Rattle.whole_contents.specs.Bags.{Alike}
-use Rattle.sorted_answers.proofs.Answers.{limit_taken, all_given, rows_back, resorted}
+use Rattle.whole_contents.proofs.Items.{rows_of_rows}
+use Rattle.sorted_answers.proofs.Answers.{limit_taken, all_given, resorted}
 use Rattle.sorted_answers.proofs.MergeRows.{sort_moves, sort_gives}
 
 -- ---- an operator that has ended
@@ -93,7 +94,7 @@ pub limit_root : (order : List SortKey) (skip : ℕ) (fetch : Option ℕ) (size 
     → Allows order skip fetch items d.gave
 limit_root order skip fetch size past full t d inputs items k w e same sorted =
     let n = done size past (limit_op skip fetch) t d inputs k e in
-    subst (Allows order skip fetch items) (sym (ap rows n.1) ∙ rows_back d.gave)
+    subst (Allows order skip fetch items) (sym (ap rows n.1) ∙ rows_of_rows d.gave)
     (limit_taken order skip fetch (t.taken 0) (t.ended 0) (whole full (inputs 0)) items (limit_reads size past full (limit_op skip fetch) t d inputs k w) n.0 same sorted)
 
 -- ---- any other root
@@ -105,7 +106,7 @@ pub whole_root : (order : List SortKey) (size : ℕ) (full : ℕ → ℕ → Lis
 whole_root order size full root items w e same sorted =
     let all : of_rows (gave_of root) ≡ whole full root = w.all e in
     all_given order (gave_of root) items (subst (λ l. Alike l items) (sym all) same)
-    (subst (IsSorted (row_cmp order)) (ap rows (sym all) ∙ rows_back (gave_of root)) sorted)
+    (subst (IsSorted (row_cmp order)) (ap rows (sym all) ∙ rows_of_rows (gave_of root)) sorted)
 
 -- ---- a sort
 
@@ -119,7 +120,7 @@ sort_root keys amount consumer size past t d inputs k e =
     let q = (k.0).ended 0 n.0 in
     let items : of_rows d.gave ≡ sort_items keys (of_rows (t.taken 0)) = n.1 ∙ ap (λ b. if b then sort_items keys (of_rows (t.taken 0)) else []) n.0 in
     let gave : d.gave ≡ sorted (row_before keys) (t.taken 0) =
-    sym (rows_back d.gave) ∙ (ap rows items ∙ ((sort_gives keys (of_rows (t.taken 0))).2 ∙ ap (sorted (row_before keys)) (rows_back (t.taken 0)))) in
+    sym (rows_of_rows d.gave) ∙ (ap rows items ∙ ((sort_gives keys (of_rows (t.taken 0))).2 ∙ ap (sorted (row_before keys)) (rows_of_rows (t.taken 0)))) in
     (q.0, gave ∙ ap (sorted (row_before keys)) (sym q.1))
 
 pub sort_above : (keys order : List SortKey) (offset : ℕ) (limit : Option ℕ) (items : List Item) (answer : List Cells)

@@ -3,9 +3,15 @@ pub mod Desks
 pub mod Polls
 pub mod Wholes
 pub mod Turns
+pub mod Settles
 pub mod Endings
 pub mod Deliveries
 pub mod Runs
 pub mod OperatorKinds
 pub mod Merges
 pub mod Worked
+pub mod Kept
+pub mod Batches
+pub mod Subtrees
+pub mod Held
+pub mod Exits

@@ -1,5 +1,5 @@
 -- The worked runs of the README, computed from the definitions.
-use Rattle.std.proofs.Common.{ℕ, ◌+◌, ◌≡◌, ◌&&◌, not, refl, List, [], ◌∷◌, length, map, Option, Some, None, Bool, true, false, cond, eqb, Ok, Err}
+use Rattle.std.proofs.Common.{ℕ, ◌+◌, ◌≡◌, inr, ◌&&◌, not, refl, List, [], ◌∷◌, length, take, map, Option, Some, None, Bool, true, false, cond, eqb, Ok, Err}
 use Rattle.dfx_value.specs.declared.fault.ItemFault.{ItemFault}
 use Rattle.dfx_value.specs.declared.value.Value.TheVariants as value
 use Rattle.run_journal.specs.declared.cause.Cause.{Cause}
@@ -7,16 +7,18 @@ use Rattle.run_journal.specs.declared.entry.Entry.{Entry}
 use Rattle.run_journal.specs.declared.entry.EntryKind.{EntryKind}
 use Rattle.run_journal.specs.declared.entry.EntryKind.TheVariants.{Claimed, Scanned, Received, Empty, Ended as EndedKind, Sent, Held, Granted, Refused as RefusedKind, Freed, Wrote, Finished}
 use Rattle.gate_channels.specs.Gate.{sent, received, ended, awaited, dropped, held}
-use Rattle.fair_pool.specs.Share.{share_of, grants}
+use Rattle.fair_pool.specs.Share.{share_of, grants, held_by}
 use Rattle.core_frame.specs.Shape.{Shape}
 use Rattle.core_frame.specs.Step.{Need, Scan, Grow, Free, Writes, Fail, wake, put_gate, with_pool, move_to, progress_is, failed}
 use Rattle.run_histories.specs.Histories.{Go, past_of, begun}
+use Rattle.run_histories.specs.Reserved.{kept}
 use Rattle.logical_plan.specs.Items.{Cells, Item}
 use Rattle.task_trees.specs.Operators.{Op}
 use Rattle.task_trees.specs.OperatorKinds.{end_op, merge}
-use Rattle.task_trees.specs.Trees.{Tree, Nothing, Files, Inlet, Node, Poll, Gives, Ends, Moves, Asks, cause_at, poll}
+use Rattle.task_trees.specs.Trees.{File, Tree, Nothing, Files, Inlet, Node, Poll, Gives, Ends, Moves, Asks, cause_at, poll, IsSubtree, form, FormReads, FormReserves}
 use Rattle.task_trees.specs.Tasks.{Split, Task}
 use Rattle.task_trees.specs.Runs.{State, the_task, state_replay}
+use Rattle.task_trees.specs.Held.{IsApart, IsHolding}
 
 by : ℕ → EntryKind → Entry
 by t k = record { worker = 0; task = t; kind = k }
@@ -119,6 +121,64 @@ one_sort_needs = refl
 one_sort_output : output_of 0 (state_replay one_sort 2 10 (Some one_sort_start) one_sort_run) ≡ row true ∷ row false ∷ row true ∷ []
 unfolding one_sort one_sort_start one_sort_run sort_task kept_rows below file row by output_of wake put_gate with_pool move_to progress_is failed share_of grants
 one_sort_output = refl
+
+top_held : Tree → ℕ
+top_held (Node op t d inputs) = d.held
+top_held _ = 0
+
+-- what the sort holds, what the pool holds for it, and what its history says
+held_in : Option State → List ℕ
+held_in None = []
+held_in (Some s) = top_held (the_task s.tasks 0).tree ∷ held_by s.run.frame.pool 0 ∷ kept 0 (past_of s.run.pasts 0) ∷ []
+
+-- after the grant of two rows all three are 8, also after the refusal; after what it gives back they are 0
+held_at_refusal : held_in (state_replay one_sort 2 10 (Some one_sort_start) (take 6 one_sort_run)) ≡ 8 ∷ 8 ∷ 8 ∷ []
+unfolding one_sort one_sort_start one_sort_run sort_task kept_rows below file row by held_in top_held wake put_gate with_pool move_to progress_is failed share_of grants
+held_at_refusal = refl
+
+held_after_giving_back : held_in (state_replay one_sort 2 10 (Some one_sort_start) (take 7 one_sort_run)) ≡ 0 ∷ 0 ∷ 0 ∷ []
+unfolding one_sort one_sort_start one_sort_run sort_task kept_rows below file row by held_in top_held wake put_gate with_pool move_to progress_is failed share_of grants
+held_after_giving_back = refl
+
+-- its tree's operators have different consumers, and hold nothing at the start
+scan : Tree
+scan = Files file (record { source = 0; items = file } ∷ []) [] []
+
+reads_none : (b : Bool) (g c : ℕ) → FormReads g c (form (cond b scan Nothing)) → ⊥
+unfolding scan
+reads_none true g c h = h
+reads_none false g c h = h
+
+reserves_none : (b : Bool) (c : ℕ) → FormReserves c (form (cond b scan Nothing)) → ⊥
+unfolding scan
+reserves_none true c h = h
+reserves_none false c h = h
+
+apart_below : (b : Bool) → IsApart (cond b scan Nothing)
+unfolding scan
+apart_below true = tt
+apart_below false = tt
+
+holds_below : (b : Bool) → IsHolding (λ c. 0) (cond b scan Nothing)
+unfolding scan
+holds_below true = tt
+holds_below false = tt
+
+sort_begins : IsApart sort_task.tree × IsHolding (λ c. 0) sort_task.tree
+unfolding sort_task below scan
+sort_begins = (
+  (λ i j g c a b. absurd (reads_none (eqb i 0) g c a), λ i j c a b. absurd (reserves_none (eqb i 0) c a), λ i c s a. reserves_none (eqb i 0) c a, λ i. apart_below (eqb i 0)),
+  (λ c s. refl, λ i. holds_below (eqb i 0)),
+)
+
+-- the scan stands in the sort's tree, and the sort not in the scan's
+scan_inside : IsSubtree scan sort_task.tree
+unfolding sort_task below scan
+scan_inside = inr (0, refl)
+
+sort_outside : (all : List Item) (files : List File) (gave unread : List Cells) → IsSubtree sort_task.tree (Files all files gave unread) → ⊥
+unfolding sort_task
+sort_outside all files gave unread e = cc
 
 -- ------------------------------------------------------------ a merge
 

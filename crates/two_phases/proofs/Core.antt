@@ -1,14 +1,10 @@
 -- What the second phase makes of rows of the first: the answers over all rows of a key.
-use Rattle.std.proofs.Common.{ℕ, ◌≡◌, refl, sym, ap, ◌∙◌, cond, eqb, List, [], ◌∷◌, ◌++◌, map, drop, Bool, true, false, not, ◌&&◌, Option, ℤ}
-use Rattle.std.specs.Prelude.{slice_get, nat_eq}
-use Rattle.std.specs.Ordering.{is_eq, int_cmp, is_gt, is_lt}
-use Rattle.std.specs.Cmp.Lexicographic.{pointwise, same_text}
-use Rattle.std.proofs.lemmas.Cmp.{tied_itself, int_cmp_total, nat_list_eq_equiv}
+use Rattle.std.proofs.Common.{ℕ, ◌≡◌, refl, sym, ap, ◌∙◌, cond, List, [], ◌∷◌, ◌++◌, map, drop, Bool, true, false, not, Option}
+use Rattle.std.specs.Prelude.{slice_get}
+use Rattle.std.specs.Ordering.{is_gt, is_lt}
 use Rattle.std.specs.List.{sum_by, fold, flat_map}
-use Rattle.std.proofs.lemmas.Bool.{true≢false, and_parts, and_from, eqb-true, eq-eqb}
 use Rattle.std.proofs.lemmas.List.{append-nil, append_assoc}
 use Rattle.std.proofs.lemmas.List.Folds.{fold-map}
-use Rattle.dfx_value.specs.Number.{Number}
 use Rattle.dfx_value.specs.Order.{value_cmp}
 use Rattle.dfx_value.specs.Rows.{cell}
 use Rattle.dfx_value.specs.Kinds.{are_of}
@@ -25,57 +21,11 @@ use Rattle.two_phases.specs.States.{State, state_of, joined, all_joined, cells_o
 use Rattle.physical_plan.specs.Properties.{state_width}
 use Rattle.two_phases.specs.Phases.{states_of, answers, state_kinds, states_kinds, told_kind}
 use Rattle.whole_contents.specs.Bags.{SameBag}
-use Rattle.two_phases.proofs.Bags.{Each, each-filter, bag-map, bag_each, fold_bag}
+use Rattle.whole_contents.proofs.Identity.{cells, cells_exact}
+use Rattle.whole_contents.proofs.Weights.{bag-map}
+use Rattle.two_phases.proofs.Bags.{Each, each-filter, bag_each, fold_bag}
 use Rattle.two_phases.proofs.States.{Ties, joined_swap, state-append, read-cells_of, drop-cells_of, agg-finished}
-use Rattle.two_phases.proofs.Exact.{of_column, null_of, exact_cell, cell_fits, is_eq_is, int_equal}
-
--- ---- cells that are one
-
-abbrev pub eq_value : Value → Value → Bool
-eq_value value.Null value.Null = true
-eq_value (value.Bool true) (value.Bool b) = b
-eq_value (value.Bool false) (value.Bool b) = not b
-eq_value (value.Int a) (value.Int b) = is_eq (int_cmp a b)
-eq_value (value.Dec a) (value.Dec b) = is_eq (int_cmp a.unscaled b.unscaled) && eqb a.scale b.scale
-eq_value (value.Text a) (value.Text b) = pointwise nat_eq a b
-eq_value _ _ = false
-
-eq_value_is : (a b : Value) → eq_value a b ≡ true → a ≡ b
-eq_value_is value.Null value.Null e = refl
-eq_value_is (value.Bool true) (value.Bool true) e = refl
-eq_value_is (value.Bool true) (value.Bool false) e = absurd (true≢false (sym e))
-eq_value_is (value.Bool false) (value.Bool true) e = absurd (true≢false (sym e))
-eq_value_is (value.Bool false) (value.Bool false) e = refl
-eq_value_is (value.Int a) (value.Int b) e = ap value.Int (int_equal a b (is_eq_is _ e))
-eq_value_is (value.Dec a) (value.Dec b) e =
-    let p = and_parts (is_eq (int_cmp a.unscaled b.unscaled)) (eqb a.scale b.scale) e in
-    let made : ℤ → ℕ → Number = λ n i. record { unscaled = n; scale = i } in
-    ap value.Dec (ap (λ (n : ℤ). made n a.scale) (int_equal a.unscaled b.unscaled (is_eq_is _ p.0)) ∙ ap (made b.unscaled) (eqb-true a.scale b.scale p.1))
-eq_value_is (value.Text a) (value.Text b) e = ap value.Text (same_text a b (sym e))
-eq_value_is _ _ e = absurd (true≢false (sym e))
-
-eq_value_refl : (a : Value) → eq_value a a ≡ true
-eq_value_refl value.Null = refl
-eq_value_refl (value.Bool true) = refl
-eq_value_refl (value.Bool false) = refl
-eq_value_refl (value.Int a) = ap is_eq (tied_itself int_cmp_total a)
-eq_value_refl (value.Dec a) = and_from _ _ (ap is_eq (tied_itself int_cmp_total a.unscaled)) (eq-eqb a.scale a.scale refl)
-eq_value_refl (value.Text a) = nat_list_eq_equiv.refl a
-
-abbrev pub eq_cells : Cells → Cells → Bool
-eq_cells [] [] = true
-eq_cells (v ∷ vs) (w ∷ ws) = eq_value v w && eq_cells vs ws
-eq_cells _ _ = false
-
-pub eq_cells_is : (a b : Cells) → eq_cells a b ≡ true → a ≡ b
-eq_cells_is [] [] e = refl
-eq_cells_is (v ∷ vs) (w ∷ ws) e = let p = and_parts (eq_value v w) (eq_cells vs ws) e in ap (λ x. x ∷ vs) (eq_value_is v w p.0) ∙ ap (λ xs. w ∷ xs) (eq_cells_is vs ws p.1)
-eq_cells_is [] (w ∷ ws) e = absurd (true≢false (sym e))
-eq_cells_is (v ∷ vs) [] e = absurd (true≢false (sym e))
-
-pub eq_cells_refl : (a : Cells) → eq_cells a a ≡ true
-eq_cells_refl [] = refl
-eq_cells_refl (v ∷ vs) = and_from _ _ (eq_value_refl v) (eq_cells_refl vs)
+use Rattle.two_phases.proofs.Exact.{of_column, null_of, exact_cell, cell_fits}
 
 -- ---- the best of values is one of them
 
@@ -206,7 +156,7 @@ answers_are (c ∷ calls) kinds groups left h same =
     head : finished c (argument_kind c kinds) (all_joined c (map (read c) left)) ≡ agg_rows kinds (concat groups) c
     head = ap (finished c (argument_kind c kinds))
         (fold-map (joined c) (read c) (state_of c []) left
-        ∙ (sym (fold_bag eq_cells eq_cells_is eq_cells_refl (step c) (call_fits c (argument_kind c kinds)) (λ s a b e f. joined_swap c s (read c a) (read c b) (ties_read c (argument_kind c kinds) a b e f)) (state_of c []) (flat_map (piece (c ∷ calls) kinds) groups) left fit (bag_each (call_fits c (argument_kind c kinds)) (flat_map (piece (c ∷ calls) kinds) groups) left same fit) same)
+        ∙ (sym (fold_bag cells cells_exact (step c) (call_fits c (argument_kind c kinds)) (λ s a b e f. joined_swap c s (read c a) (read c b) (ties_read c (argument_kind c kinds) a b e f)) (state_of c []) (flat_map (piece (c ∷ calls) kinds) groups) left fit (bag_each (call_fits c (argument_kind c kinds)) (flat_map (piece (c ∷ calls) kinds) groups) left same fit) same)
         ∙ fold_pieces c calls kinds [] groups))
         ∙ sym (agg-finished c (argument_kind c kinds) (map (argument c) (concat groups)))
 
@@ -234,6 +184,6 @@ agg_order kinds c xs ys h same =
     agg-finished c (argument_kind c kinds) (map (argument c) xs)
     ∙ (ap (finished c (argument_kind c kinds))
     (sym (fold_rows c [] xs)
-    ∙ (fold_bag eq_cells eq_cells_is eq_cells_refl (one_step c) (are_of kinds) (λ s a b e f. joined_swap c s (state_of c (argument c a ∷ [])) (state_of c (argument c b ∷ [])) (ties_one c kinds a b e f)) (state_of c []) xs ys h (bag_each (are_of kinds) xs ys same h) same
+    ∙ (fold_bag cells cells_exact (one_step c) (are_of kinds) (λ s a b e f. joined_swap c s (state_of c (argument c a ∷ [])) (state_of c (argument c b ∷ [])) (ties_one c kinds a b e f)) (state_of c []) xs ys h (bag_each (are_of kinds) xs ys same h) same
     ∙ fold_rows c [] ys))
     ∙ sym (agg-finished c (argument_kind c kinds) (map (argument c) ys)))

@@ -17,12 +17,15 @@ use Rattle.two_phases.specs.States.{state_of, joined, all_joined, read, finished
 use Rattle.physical_plan.specs.Properties.{state_width}
 use Rattle.two_phases.specs.Phases.{AreApart, grouped, told_kind, answers, final_item, one_final, final}
 use Rattle.whole_contents.specs.Bags.{SameBag, Alike, together}
-use Rattle.two_phases.proofs.Bags.{Each, each_more, each-filter, bag-filter, bag-map, bag_any, bag_each, sum_by-map, fold_bag}
+use Rattle.whole_contents.proofs.Identity.{cells, cells_exact}
+use Rattle.whole_contents.proofs.Weights.{bag-filter, bag-map, bag_any, sum_by-map}
+use Rattle.whole_contents.proofs.Items.{bag_rows, bag_faults, together_both, together_faults}
+use Rattle.two_phases.proofs.Bags.{Each, each_more, each-filter, bag_each, fold_bag}
 use Rattle.two_phases.proofs.States.{joined_swap}
 use Rattle.two_phases.proofs.Exact.{cell_fits, key_fits, key_list_fits, keys_exact}
 use Rattle.two_phases.proofs.Groups.{of_keys, grouped_same}
-use Rattle.two_phases.proofs.Core.{call_fits, ties_read, step, eq_cells, eq_cells_is, eq_cells_refl}
-use Rattle.two_phases.proofs.Items.{each_pass, bag_rows, bag_faults, together_both, together_faults, together_groups}
+use Rattle.two_phases.proofs.Core.{call_fits, ties_read, step}
+use Rattle.two_phases.proofs.Items.{each_pass, together_groups}
 
 first_fits : (c : AggCall) (ks : List Kind) (row : Cells) → are_of ks row ≡ true → call_fits c (slice_get ks 0) row ≡ true
 first_fits call.CountAll ks row h = refl
@@ -54,7 +57,7 @@ answers_order (c ∷ calls) ks xs ys h same =
 
     head : all_joined c (map (read c) xs) ≡ all_joined c (map (read c) ys)
     head = fold-map (joined c) (read c) (state_of c []) xs
-        ∙ (fold_bag eq_cells eq_cells_is eq_cells_refl (step c) (call_fits c (slice_get ks 0)) (λ s a b e f. joined_swap c s (read c a) (read c b) (ties_read c (slice_get ks 0) a b e f)) (state_of c []) xs ys fit (bag_each (call_fits c (slice_get ks 0)) xs ys same fit) same
+        ∙ (fold_bag cells cells_exact (step c) (call_fits c (slice_get ks 0)) (λ s a b e f. joined_swap c s (read c a) (read c b) (ties_read c (slice_get ks 0) a b e f)) (state_of c []) xs ys fit (bag_each (call_fits c (slice_get ks 0)) xs ys same fit) same
         ∙ sym (fold-map (joined c) (read c) (state_of c []) ys))
 
 item_order : (n : ℕ) (calls : List AggCall) (ks : List Kind) (k : Cells) (xs ys : List Cells) → Each (are_of ks) xs → SameBag xs ys → final_item n calls ks k xs ≡ final_item n calls ks k ys

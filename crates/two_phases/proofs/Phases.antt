@@ -18,9 +18,11 @@ use Rattle.logical_plan.specs.Groups.{group_item}
 use Rattle.two_phases.specs.Phases.{grouped, states_of, phase_row, phase_rows, states_kinds, phase_kinds, answers, final_item}
 use Rattle.physical_plan.specs.Layout.{numbers, numbers_from}
 use Rattle.whole_contents.specs.Bags.{SameBag}
-use Rattle.two_phases.proofs.Bags.{Each, each_more, each-append, each_left, each_right, each-filter, bag-filter, bag-map, bag_any, bag_each}
+use Rattle.two_phases.proofs.Bags.{Each, each_more, each-append, each_left, each_right, each-filter, bag_each}
+use Rattle.whole_contents.proofs.Weights.{bag-filter, bag-map, bag_any}
 use Rattle.two_phases.proofs.Firsts.{any-firsts}
-use Rattle.two_phases.proofs.Exact.{key_fits, key_list_fits, keys_exact, same_keys_laws}
+use Rattle.two_phases.proofs.Exact.{key_fits, key_list_fits, keys_exact}
+use Rattle.key_table.proofs.Found.{same_keys_laws}
 use Rattle.two_phases.proofs.Groups.{of_keys, like, any-map, grouped_same, each-firsts}
 use Rattle.two_phases.proofs.Core.{piece, map-append, EachOf, answers_are, agg_order}
 

@@ -16,9 +16,10 @@ use Rattle.logical_plan.specs.Items.{Cells, all_values, as_item}
 use Rattle.two_phases.specs.States.{State, state_of, joined, read, cells_of, finished}
 use Rattle.physical_plan.specs.Properties.{state_width}
 use Rattle.two_phases.specs.Phases.{grouped, states_of, phase_row, phase_rows, told_kind, answers, final_item}
-use Rattle.two_phases.specs.Tables.{upsert, table_step, table, starts, with_row, all_cells, with_cells, all_finished, finished_item}
+use Rattle.two_phases.specs.Tables.{table_step, table, starts, with_row, all_cells, with_cells, all_finished, finished_item}
+use Rattle.key_table.specs.Entries.{upsert}
 use Rattle.two_phases.proofs.Bags.{Each, each-filter}
-use Rattle.two_phases.proofs.Exact.{same_keys_laws}
+use Rattle.key_table.proofs.Found.{same_keys_laws}
 use Rattle.two_phases.proofs.Groups.{like, not_any, none_kept}
 use Rattle.two_phases.proofs.Core.{map-append, one_step, fold_rows}
 

@@ -1,4 +1,5 @@
--- Meaning: groups in two phases.
+-- Meaning: groups in two phases: rows of keys and states of segments, and what is made of such
+-- rows.
 use Rattle.std.specs.Prelude.{slice_get, Option, None, ℕ, ◌<◌, ◌≡◌, not, List, [], ◌∷◌, ◌++◌, length, map, filter, drop, Ok, Err}
 use Rattle.std.specs.List.{list_any, AllPass}
 use Rattle.dfx_value.specs.Checked.{◌>>=◌}
@@ -14,20 +15,24 @@ use Rattle.scalar_exprs.specs.Groups.{key_list, same_keys, firsts}
 use Rattle.logical_plan.specs.Body.{kind_or_text, key_kinds}
 use Rattle.logical_plan.specs.Groups.{alike}
 use Rattle.logical_plan.specs.Items.{Cells, Item, rows, faults, of_rows, of_faults, all_values, as_item, concat}
-use Rattle.plan_props.specs.Meets.{AllEqual, Each}
+use Rattle.physical_plan.specs.Layout.{numbers}
 use Rattle.two_phases.specs.States.{state_of, all_joined, cells_of, read, finished}
 use Rattle.physical_plan.specs.Properties.{state_width}
 
--- something for each list of keys among rows, from it and from the rows that have it, in the order of their first rows
+-- something for each list of keys among rows, from it and from the rows that have it, in the order
+-- of first rows
 abbrev pub grouped : {R X : Type 0} → (R → Cells) → (Cells → List R → X) → List R → List X
-grouped key answer all = map (λ r. answer (key r) (filter (λ s. same_keys (key r) (key s)) all)) (firsts (λ r s. same_keys (key r) (key s)) all)
+grouped key answer all =
+    map (λ r. answer (key r) (filter (λ s. same_keys (key r) (key s)) all))
+    (firsts (λ r s. same_keys (key r) (key s)) all)
 
 -- ---- the first phase
 
 -- the state cells of each call over a group
 abbrev pub states_of : List AggCall → List Kind → List Cells → Cells
 states_of [] kinds group = []
-states_of (c ∷ calls) kinds group = cells_of c (argument_kind c kinds) (state_of c (map (argument c) group)) ++ states_of calls kinds group
+states_of (c ∷ calls) kinds group =
+    cells_of c (argument_kind c kinds) (state_of c (map (argument c) group)) ++ states_of calls kinds group
 
 abbrev pub phase_row : List AggCall → List Kind → Cells → List Cells → Cells
 phase_row calls kinds keys group = keys ++ states_of calls kinds group
@@ -37,7 +42,8 @@ abbrev pub phase_rows : List ℕ → List AggCall → List Kind → List Cells �
 phase_rows columns calls kinds = grouped (key_list columns) (phase_row calls kinds)
 
 abbrev pub phase : List ℕ → List AggCall → List Kind → List Item → List Item
-phase columns calls kinds items = of_faults (faults items) ++ of_rows (phase_rows columns calls kinds (rows items))
+phase columns calls kinds items =
+    of_faults (faults items) ++ of_rows (phase_rows columns calls kinds (rows items))
 
 -- ---- the kinds of those rows
 
@@ -65,23 +71,36 @@ told_kind (call.Sum c) kinds = slice_get kinds 1
 told_kind (call.Avg c) kinds = slice_get kinds 1
 told_kind _ kinds = None
 
--- the answers of the calls, from what is left of rows behind their keys, and the kinds of these cells
+-- the answers of the calls, from what is left of rows behind their keys, and the kinds of these
+-- cells
 abbrev pub answers : List AggCall → List Kind → List Cells → List Outcome
 answers [] kinds group = []
-answers (c ∷ calls) kinds group = finished c (told_kind c kinds) (all_joined c (map (read c) group)) ∷ answers calls (drop (state_width c) kinds) (map (drop (state_width c)) group)
+answers (c ∷ calls) kinds group =
+    finished c (told_kind c kinds) (all_joined c (map (read c) group))
+    ∷ answers calls (drop (state_width c) kinds) (map (drop (state_width c)) group)
 
+-- the item of a list of keys, from its rows of so many keys and then states
 abbrev pub final_item : ℕ → List AggCall → List Kind → Cells → List Cells → Item
-final_item n calls kinds keys group = as_item (all_values (answers calls (drop n kinds) (map (drop n) group)) >>= λ vs. Ok (keys ++ vs))
+final_item n calls kinds keys group =
+    as_item (all_values (answers calls (drop n kinds) (map (drop n) group)) >>= λ vs. Ok (keys ++ vs))
 
+-- without keys: the first fault alone where there is one, else the one group of all rows, also of
+-- none
 abbrev pub one_final : List AggCall → List Kind → List Cells → List ItemFault → Item
 one_final calls kinds all [] = final_item 0 calls kinds [] all
 one_final calls kinds all (f ∷ fs) = Err f
 
--- of rows of the first phase, with these key columns, which come first: without keys one item; else every fault, and an item for
--- each list of keys
+-- of rows of keys at these columns, which come first, and of states: without keys one item; else
+-- every fault, and an item for each list of keys
 abbrev pub final : List ℕ → List AggCall → List Kind → List Item → List Item
 final [] calls kinds items = one_final calls kinds (rows items) (faults items) ∷ []
-final (column ∷ columns) calls kinds items = of_faults (faults items) ++ grouped (key_list (column ∷ columns)) (final_item (length (column ∷ columns)) calls kinds) (rows items)
+final (column ∷ columns) calls kinds items =
+    of_faults (faults items)
+    ++ grouped (key_list (column ∷ columns)) (final_item (length (column ∷ columns)) calls kinds) (rows items)
+
+-- the second phase over rows of the first, of groups by these columns of rows of these kinds
+abbrev pub second_phase : List ℕ → List AggCall → List Kind → List Item → List Item
+second_phase columns calls kinds = final (numbers (length columns)) calls (phase_kinds columns calls kinds)
 
 -- ---- partitions
 
@@ -92,14 +111,9 @@ IsApart keys xs ys = AllPass (λ r. not (list_any (alike keys r) (rows ys))) (ro
 -- rows with the same keys lie in one of n lists; without keys there is one list
 abbrev pub AreApart : List ℕ → ℕ → (ℕ → List Item) → Type 0
 AreApart [] n parts = n ≡ 1
-AreApart (column ∷ columns) n parts = (i j : ℕ) → i < j → j < n → IsApart (column ∷ columns) (parts i) (parts j)
+AreApart (column ∷ columns) n parts =
+    (i j : ℕ) → i < j → j < n → IsApart (column ∷ columns) (parts i) (parts j)
 
 -- segments of an operator's input: those that flushes closed, and the rest
-
 abbrev pub segments_of : List (List Cells) → List Item → List (List Item)
 segments_of closed items = map of_rows closed ++ drop (length (concat closed)) items ∷ []
-
--- ---- rows of which equal keys stand in one partition, as a need of a hash asks
-
-abbrev pub Gathers : List ℕ → (ℕ → List Item) → Type 0
-Gathers keys parts = (i j : ℕ) → Each (λ r. Each (λ s. AllEqual (key_list keys r) (key_list keys s) → i ≡ j) (rows (parts j))) (rows (parts i))

@@ -13,7 +13,8 @@ use Rattle.scalar_exprs.specs.Functions.{Outcome, decimal}
 use Rattle.scalar_exprs.specs.Kinds.{scale_of, mean_scale}
 use Rattle.scalar_exprs.specs.Agg.{present, gains, losses, unscaled, lesser, greater, least, greatest}
 
--- how many values, the sum of those above 0, that of the magnitudes below, and whether one of these was past its range
+-- how many values, the sum of those above 0, that of the magnitudes below, and whether one of these
+-- was past its range, for good, and then they are 0
 pub record Totals : Type 0 where
   pub count : ℕ
   pub plus : ℕ
@@ -85,7 +86,9 @@ count_cells (Sums t) = value.Int (pos t.count) ∷ value.Bool t.over ∷ []
 count_cells (Best v) = []
 
 abbrev pub sum_cells : ℕ → State → List Value
-sum_cells s (Sums t) = value.Int (pos t.count) ∷ value.Dec (at_scale (pos t.plus) s) ∷ value.Dec (at_scale (pos t.minus) s) ∷ value.Bool t.over ∷ []
+sum_cells s (Sums t) =
+    value.Int (pos t.count) ∷ value.Dec (at_scale (pos t.plus) s)
+    ∷ value.Dec (at_scale (pos t.minus) s) ∷ value.Bool t.over ∷ []
 sum_cells s (Best v) = []
 
 abbrev pub best_cells : State → List Value
@@ -109,10 +112,20 @@ truth (value.Bool b) = b
 truth _ = false
 
 abbrev pub read_count : List Value → State
-read_count cells = Sums (record { count = magnitude (cell cells 0); plus = 0; minus = 0; over = truth (cell cells 1) })
+read_count cells = Sums (record {
+  count = magnitude (cell cells 0);
+  plus = 0;
+  minus = 0;
+  over = truth (cell cells 1);
+})
 
 abbrev pub read_sums : List Value → State
-read_sums cells = Sums (record { count = magnitude (cell cells 0); plus = magnitude (cell cells 1); minus = magnitude (cell cells 2); over = truth (cell cells 3) })
+read_sums cells = Sums (record {
+  count = magnitude (cell cells 0);
+  plus = magnitude (cell cells 1);
+  minus = magnitude (cell cells 2);
+  over = truth (cell cells 3);
+})
 
 abbrev pub read_best : List Value → State
 read_best cells = Best (cell cells 0)
@@ -139,11 +152,14 @@ count_answer (Sums t) = or_over t.over (Ok (value.Int (pos t.count)))
 count_answer (Best v) = Ok v
 
 abbrev pub sum_answer : ℕ → State → Outcome
-sum_answer s (Sums t) = or_over t.over (unless_none t.count (Ok (value.Dec (at_scale (pos t.plus -ℤ pos t.minus) s))))
+sum_answer s (Sums t) =
+    or_over t.over (unless_none t.count (Ok (value.Dec (at_scale (pos t.plus -ℤ pos t.minus) s))))
 sum_answer s (Best v) = Ok v
 
 abbrev pub mean_answer : ℕ → State → Outcome
-mean_answer s (Sums t) = or_over t.over (unless_none t.count (decimal (mean (pos t.plus -ℤ pos t.minus) (mean_scale s - s) t.count (mean_scale s))))
+mean_answer s (Sums t) =
+    or_over t.over (unless_none t.count
+    (decimal (mean (pos t.plus -ℤ pos t.minus) (mean_scale s - s) t.count (mean_scale s))))
 mean_answer s (Best v) = Ok v
 
 -- the answer of a call, whose argument has this kind

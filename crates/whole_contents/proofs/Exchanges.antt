@@ -16,10 +16,12 @@ use Rattle.task_trees.specs.Runs.{State, the_task, for_channel, IsStart, IsReach
 use Rattle.task_trees.proofs.Fronts.{of_rows-append, concat-append, left_of}
 use Rattle.task_trees.proofs.Deliveries.{for-append}
 use Rattle.whole_contents.specs.Bags.{SameBag, sum_below, together}
-use Rattle.whole_contents.specs.Senders.{bodies, Deal, AreSenders, SendsOnly, IsOnlySender}
+use Rattle.whole_contents.specs.Subsequences.{IsSubsequence}
+use Rattle.whole_contents.specs.Senders.{bodies, Deal, AreSenders, SendsOnly, IsOnlySender, SendsInOrder, IsLoneSender}
 use Rattle.whole_contents.specs.Whole.{past_in, tree_in, parts_of, unsent, still, to_come, IsFull, AreFull, given_weight, given_to}
 use Rattle.whole_contents.proofs.Bags.{together_weighs, sums_same, sums_add, sums_zero, sums_swap, sums_none, sums_each, weight, weight-append, spread, by_senders, one_sender, all_weigh, fails, none_fails, all_pass}
 use Rattle.whole_contents.proofs.Flows
+use Rattle.whole_contents.proofs.Orders.{within-append, within_rows, parts_in_order}
 
 is_false : (b : Bool) → (b ≡ true → ⊥) → b ≡ false
 is_false true h = absurd (h refl)
@@ -169,13 +171,11 @@ module _ (p : Shape) (sh : IsShape p) (size limit : ℕ) (start s : State) (entr
 
   -- ---------------------------------------------------------- one sender
 
-  module _ (u g c : ℕ) (o : IsOnlySender p start.tasks deal u g c) where
-    none_of : (v : ℕ) → u ≢ v → is_group (task_at p v).sends g ≡ true → (parts_sent c (past_in s v) ≡ []) × (unsent s v c ≡ []) × (deal v c (still s full v) ≡ [])
-    none_of v n d = ((unsent_aside v g c d beside).0, (unsent_aside v g c d beside).1, (senders v g d).2.aside c (still s full v) beside)
-      where
-        beside : has (task_at p v).targets c ≡ false
-        beside = is_false (has (task_at p v).targets c) (λ z. n (o.alone v (rw (d, z) refl)))
+  -- the other tasks send nothing to this channel
+  abbrev NoOther : ℕ → ℕ → ℕ → Type 0
+  NoOther u g c = (v : ℕ) → u ≢ v → is_group (task_at p v).sends g ≡ true → (parts_sent c (past_in s v) ≡ []) × (unsent s v c ≡ []) × (deal v c (still s full v) ≡ [])
 
+  module _ (u g c : ℕ) (inside : c < width p g) (sends : is_group (task_at p u).sends g ≡ true) (none_of : NoOther u g c) where
     no_sent : (v : ℕ) → u ≢ v → sent_to p v g c (past_in s v) ≡ []
     no_sent v n = go (is_group (task_at p v).sends g) refl
       where
@@ -200,34 +200,62 @@ module _ (p : Shape) (sh : IsShape p) (size limit : ℕ) (start s : State) (entr
     one_comes : (n : ℕ) → u < n → to_come p s deal full g c n ≡ come_one u true
     one_comes zero h = absurd (omega arith)
     one_comes (suc n) h = elim (same_or_not u n) [
-      | inl q ↦ subst (λ m. to_come p s deal full g c m ++ come_one m (is_group (task_at p m).sends g) ≡ come_one u true) q (rw (none_before u (omega arith)) (ap (come_one u) o.sends))
+      | inl q ↦ subst (λ m. to_come p s deal full g c m ++ come_one m (is_group (task_at p m).sends g) ≡ come_one u true) q (rw (none_before u (omega arith)) (ap (come_one u) sends))
       | inr q ↦ ap (λ l. to_come p s deal full g c n ++ l) (none_comes n q) ∙ (append-nil (to_come p s deal full g c n) ∙ one_comes n (omega (arith, h, q)))
     ]
+
+    u_in : u < length p.tasks
+    u_in = elim (lt_or_le u (length p.tasks)) [ inl h ↦ h | inr h ↦ (let z : is_group (task_at p u).sends g ≡ false = ap (λ x. is_group x.sends g) (get_or-eq_default p.tasks no_task h) in let y : true ≡ false = sym sends ∙ z in cc) ]
+
+    mine : parts_sent c (past_in s u) ≡ sent_to p u g c (past_in s u)
+    mine = sym (ap (λ b. cond b (parts_sent c (past_in s u)) []) sends)
+
+    -- the channel has its parts of what that task gave, and its share of what it would still give
+    one_full : full g c ≡ of_rows (concat (for_channel c (parts_of s u))) ++ deal u c (still s full u)
+    one_full =
+        let f : IsFull p s deal full (sh.has_receiver g c inside).0 g c = full_at g c inside in
+        let con : IsContents p s.run.frame s.run.pasts (sh.has_receiver g c inside).0 g c = f.contents in
+        let tk : List (List Cells) = took g c (past_in s (sh.has_receiver g c inside).0) in
+        let a : tk ++ con.rest ≡ parts_sent c (past_in s u) = con.all ∙ (one_sender u con.log (λ v n. con.each v ∙ no_sent v n) ∙ (con.each u ∙ sym mine)) in
+        let b : of_rows (concat tk) ++ of_rows (concat con.rest) ≡ of_rows (concat (parts_sent c (past_in s u))) = sym (of_rows-append (concat tk) (concat con.rest)) ∙ ap of_rows (sym (concat-append tk con.rest) ∙ ap concat a) in
+        let d : of_rows (concat (parts_sent c (past_in s u))) ++ of_rows (concat (unsent s u c)) ≡ of_rows (concat (for_channel c (parts_of s u))) = sym (of_rows-append (concat (parts_sent c (past_in s u))) (concat (unsent s u c)))
+        ∙ ap of_rows (sym (concat-append (parts_sent c (past_in s u)) (unsent s u c)) ∙ ap concat (parts_split u g c sends)) in
+        f.all ∙ (ap (λ l. of_rows (concat tk) ++ (of_rows (concat con.rest) ++ l)) (one_comes (length p.tasks) u_in)
+        ∙ (sym (append_assoc (of_rows (concat tk)) (of_rows (concat con.rest)) (of_rows (concat (unsent s u c)) ++ deal u c (still s full u)))
+        ∙ (ap (λ l. l ++ (of_rows (concat (unsent s u c)) ++ deal u c (still s full u))) b
+        ∙ (sym (append_assoc (of_rows (concat (parts_sent c (past_in s u)))) (of_rows (concat (unsent s u c))) (deal u c (still s full u)))
+        ∙ ap (λ l. l ++ deal u c (still s full u)) d))))
+
+  -- all that the task gives goes to this channel
+  module _ (u g c : ℕ) (o : IsOnlySender p start.tasks deal u g c) where
+    none_of : NoOther u g c
+    none_of v n d = ((unsent_aside v g c d beside).0, (unsent_aside v g c d beside).1, (senders v g d).2.aside c (still s full v) beside)
+      where
+        beside : has (task_at p v).targets c ≡ false
+        beside = is_false (has (task_at p v).targets c) (λ z. n (o.alone v (rw (d, z) refl)))
 
     cuts_here : (split : Split) → ((j : ℕ) (b : List Cells) → concat (for_channel c (split j b)) ≡ b) → (j : ℕ) (bs : List (List Cells)) → concat (for_channel c (all_parts split j bs)) ≡ concat bs
     cuts_here split h j [] = refl
     cuts_here split h j (b ∷ bs) = ap concat (for-append c (split j b) (all_parts split (j + 1) bs)) ∙ (concat-append (for_channel c (split j b)) (for_channel c (all_parts split (j + 1) bs)) ∙ rw (h j b, cuts_here split h (j + 1) bs) refl)
 
-    u_in : u < length p.tasks
-    u_in = elim (lt_or_le u (length p.tasks)) [ inl h ↦ h | inr h ↦ (let z : is_group (task_at p u).sends g ≡ false = ap (λ x. is_group x.sends g) (get_or-eq_default p.tasks no_task h) in let y : true ≡ false = sym o.sends ∙ z in cc) ]
-
-    mine : parts_sent c (past_in s u) ≡ sent_to p u g c (past_in s u)
-    mine = sym (ap (λ b. cond b (parts_sent c (past_in s u)) []) o.sends)
-
-    rows : concat (parts_sent c (past_in s u)) ++ concat (unsent s u c) ≡ gave_of (tree_in s u)
-    rows = sym (concat-append (parts_sent c (past_in s u)) (unsent s u c)) ∙ (ap concat (parts_split u g c o.sends ∙ ap (for_channel c) (cut_of u g o.sends).parts)
-        ∙ (cuts_here (senders u g o.sends).0 (λ j b. o.here (senders u g o.sends).0 (senders u g o.sends).1 j b) 0 (cut_of u g o.sends).cuts ∙ (cut_of u g o.sends).rows))
+    rows : concat (for_channel c (parts_of s u)) ≡ gave_of (tree_in s u)
+    rows = ap (λ l. concat (for_channel c l)) (cut_of u g o.sends).parts
+        ∙ (cuts_here (senders u g o.sends).0 (λ j b. o.here (senders u g o.sends).0 (senders u g o.sends).1 j b) 0 (cut_of u g o.sends).cuts ∙ (cut_of u g o.sends).rows)
 
     pub only_sender : full g c ≡ whole full (tree_in s u)
-    only_sender =
-        let f : IsFull p s deal full (sh.has_receiver g c o.inside).0 g c = full_at g c o.inside in
-        let con : IsContents p s.run.frame s.run.pasts (sh.has_receiver g c o.inside).0 g c = f.contents in
-        let tk : List (List Cells) = took g c (past_in s (sh.has_receiver g c o.inside).0) in
-        let a : tk ++ con.rest ≡ parts_sent c (past_in s u) = con.all ∙ (one_sender u con.log (λ v n. con.each v ∙ no_sent v n) ∙ (con.each u ∙ sym mine)) in
-        let b : of_rows (concat tk) ++ of_rows (concat con.rest) ≡ of_rows (concat (parts_sent c (past_in s u))) = sym (of_rows-append (concat tk) (concat con.rest)) ∙ ap of_rows (sym (concat-append tk con.rest) ∙ ap concat a) in
-        let d : of_rows (concat (parts_sent c (past_in s u))) ++ of_rows (concat (unsent s u c)) ≡ of_rows (gave_of (tree_in s u)) = sym (of_rows-append (concat (parts_sent c (past_in s u))) (concat (unsent s u c))) ∙ ap of_rows rows in
-        f.all ∙ (ap (λ l. of_rows (concat tk) ++ (of_rows (concat con.rest) ++ l)) (one_comes (length p.tasks) u_in ∙ ap (λ l. of_rows (concat (unsent s u c)) ++ l) (o.dealt (still s full u)))
-        ∙ (sym (append_assoc (of_rows (concat tk)) (of_rows (concat con.rest)) (of_rows (concat (unsent s u c)) ++ still s full u))
-        ∙ (ap (λ l. l ++ (of_rows (concat (unsent s u c)) ++ still s full u)) b
-        ∙ (sym (append_assoc (of_rows (concat (parts_sent c (past_in s u)))) (of_rows (concat (unsent s u c))) (still s full u))
-        ∙ (ap (λ l. l ++ still s full u) d ∙ left_whole u)))))
+    only_sender = one_full u g c o.inside o.sends none_of ∙ (ap (λ l. of_rows l ++ deal u c (still s full u)) rows ∙ (ap (λ l. of_rows (gave_of (tree_in s u)) ++ l) (o.dealt (still s full u)) ∙ left_whole u))
+
+  -- the task alone sends to the group, in order
+  module _ (u g : ℕ) (o : IsLoneSender p start.tasks deal u g) where
+    in_order : SendsInOrder (senders u g o.sends).0 (deal u)
+    in_order = o.ordered (senders u g o.sends).0 (senders u g o.sends).1
+
+    gave_in_order : (c : ℕ) → IsSubsequence (concat (for_channel c (parts_of s u))) (gave_of (tree_in s u))
+    gave_in_order c = subst (IsSubsequence (concat (for_channel c (parts_of s u)))) (cut_of u g o.sends).rows (subst (λ l. IsSubsequence (concat (for_channel c l)) (concat (cut_of u g o.sends).cuts)) (sym (cut_of u g o.sends).parts)
+        (parts_in_order (senders u g o.sends).0 (deal u) in_order c 0 (cut_of u g o.sends).cuts))
+
+    pub lone_sender : (c : ℕ) → c < width p g → IsSubsequence (full g c) (whole full (tree_in s u))
+    lone_sender c inside = subst (λ l. IsSubsequence l (whole full (tree_in s u))) (sym (one_full u g c inside o.sends (λ v n d. absurd (n (o.alone v d)))))
+        (subst (IsSubsequence (of_rows (concat (for_channel c (parts_of s u))) ++ deal u c (still s full u))) (left_whole u)
+        (within-append (of_rows (concat (for_channel c (parts_of s u)))) (of_rows (gave_of (tree_in s u))) (deal u c (still s full u)) (still s full u)
+        (within_rows (concat (for_channel c (parts_of s u))) (gave_of (tree_in s u)) (gave_in_order c)) (in_order.dealt c (still s full u))))

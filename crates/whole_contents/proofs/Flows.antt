@@ -9,12 +9,13 @@ use Rattle.run_histories.specs.Contents.{took, has_end, parts_sent, IsContents, 
 use Rattle.run_histories.proofs.Laws.{recorded}
 use Rattle.logical_plan.specs.Items.{Cells, Item, of_rows, concat}
 use Rattle.task_trees.specs.Operators.{IsFront, Reads}
-use Rattle.task_trees.specs.Trees.{Tree, Nothing, Files, Inlet, Node, gave_of, HasInlet, FormReads}
+use Rattle.task_trees.specs.Trees.{Tree, Nothing, Files, Inlet, Node, gave_of, IsSubtree, HasInlet, FormReads}
 use Rattle.task_trees.specs.Linked.{whole, IsFlow, IsWhole}
 use Rattle.task_trees.specs.Tasks.{Parts, Split, handled, all_parts, IsCut, IsOut}
 use Rattle.task_trees.specs.Runs.{State, the_task, AllTo, for_channel, IsStart, IsReached}
 use Rattle.task_trees.proofs.Desks.{same_functions}
 use Rattle.task_trees.proofs.Wholes.{whole_of}
+use Rattle.task_trees.proofs.Subtrees.{fronts_inside}
 use Rattle.task_trees.proofs.Deliveries.{for-append, not_gone}
 use Rattle.whole_contents.specs.Senders.{Deal, AreSenders}
 use Rattle.whole_contents.specs.Whole.{past_in, tree_in, parts_of, unsent, still, to_come, IsFull, AreFull}
@@ -214,3 +215,6 @@ module _ (p : Shape) (sh : IsShape p) (size limit : ℕ) (start s : State) (entr
 
       pub wholes : (t : ℕ) → IsWhole size full (tree_in s t)
       wholes t = whole_of size (past_in s t) full (tree_in s t) (k.task t).linked (flows t)
+
+      pub subtrees : (t : ℕ) (x : Tree) → IsSubtree x (tree_in s t) → IsWhole size full x
+      subtrees t x e = fronts_inside size (past_in s t) full x (tree_in s t) (k.task t).linked (flows t) e

@@ -1,5 +1,10 @@
+pub mod Identity
+pub mod Weights
+pub mod Items
 pub mod Bags
+pub mod Orders
 pub mod Flows
 pub mod Exchanges
 pub mod SenderKinds
 pub mod Worked
+pub mod Received

@@ -38,7 +38,7 @@ whole_sender p u g to home there inside = record {
 -- ------------------------------------------------------------ rows by their number
 
 module _ (number : Cells → ℕ) where
-  abbrev picked : ℕ → List Cells → List Cells
+  abbrev pub picked : ℕ → List Cells → List Cells
   picked c rows = filter (λ row. eqb (number row) c) rows
 
   part_weighs : (w : Item → ℕ) (c : ℕ) (rows : List Cells) → weight w (bodies (part_of c rows)) ≡ sum_by w (of_rows rows)
@@ -78,7 +78,7 @@ module _ (number : Cells → ℕ) where
       go true e a = rw e (sum_by-cons (fails (is_at number d)) (Ok r) (of_rows (picked d rows)) ∙ (let y : fails (is_at number d) (Ok r) ≡ 0 = rw e refl in let z : sum_by (fails (is_at number d)) (of_rows (picked d rows)) ≡ 0 = a in omega arith))
       go false e a = rw e a
 
-  for_part : (c d : ℕ) (rows : List Cells) → c ≢ d → for_channel d (part_of c rows) ≡ []
+  pub for_part : (c d : ℕ) (rows : List Cells) → c ≢ d → for_channel d (part_of c rows) ≡ []
   for_part c d [] n = refl
   for_part c d (r ∷ rows) n = elim (eqb_tells c d) [ inl e ↦ absurd (n e.1) | inr e ↦ rw e.0 refl ]
 

@@ -1,5 +1,5 @@
 -- The worked rows of the README, computed from the definitions.
-use Rattle.std.proofs.Common.{ℕ, ◌≡◌, refl, List, [], ◌∷◌, length, Some, None, true, false, Ok, Err}
+use Rattle.std.proofs.Common.{ℕ, ◌≡◌, inl, inr, refl, List, [], ◌∷◌, length, Some, None, true, false, Ok, Err}
 use Rattle.dfx_value.specs.declared.fault.ItemFault.{ItemFault}
 use Rattle.dfx_value.specs.declared.value.Value.TheVariants as value
 use Rattle.core_frame.specs.Shape.{Shape}
@@ -10,6 +10,7 @@ use Rattle.logical_plan.specs.Items.{Cells, Item}
 use Rattle.task_trees.specs.Trees.{Files, Inlet}
 use Rattle.task_trees.specs.Tasks.{Parts, Task}
 use Rattle.task_trees.specs.Runs.{State}
+use Rattle.whole_contents.specs.Subsequences.{IsSubsequence}
 use Rattle.whole_contents.specs.Senders.{Deal}
 use Rattle.whole_contents.specs.SenderKinds.{whole_split, home_deal, hash_split, hash_deal}
 use Rattle.whole_contents.specs.Whole.{unsent, to_come}
@@ -71,3 +72,13 @@ faults_first f = refl
 rows_at_their_own : (f : ItemFault) → hash_deal length 1 (Err f ∷ Ok yes ∷ []) ≡ Ok yes ∷ []
 unfolding yes
 rows_at_their_own f = refl
+
+-- some rows of three, in their order, are a subsequence; in another order they aren't
+in_order : IsSubsequence (no ∷ yes ∷ []) (yes ∷ no ∷ yes ∷ [])
+in_order = inl (inr (yes ∷ [], refl, inr ([], refl, refl)))
+
+turned : IsSubsequence (no ∷ yes ∷ []) (yes ∷ no ∷ []) → ⊥
+unfolding yes no
+turned (inl (inl e)) = cc
+turned (inl (inr (rest, e, f))) = cc
+turned (inr (rest, e, f)) = cc

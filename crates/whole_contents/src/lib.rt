@@ -3,4 +3,4 @@
 
 mod law;
 
-pub use law::{bag_law, exchange_law, full_law, senders_law, test_law};
+pub use law::{bag_law, exchange_law, full_law, received_law, senders_law, test_law};

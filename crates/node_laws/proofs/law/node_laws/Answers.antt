@@ -1,13 +1,13 @@
-use Rattle.node_laws.proofs.Weavings.{coalesce_meets, gathered_meets, merge_meets}
-use Rattle.node_laws.proofs.Cuts.{cut_meets, begun_meets}
-use Rattle.node_laws.proofs.Dealings.{deal_meets}
+use Rattle.node_laws.proofs.Weavings.{gathered_meets, merge_meets}
+use Rattle.node_laws.proofs.Cuts.{stretches_meet, begun_meets}
+use Rattle.node_laws.proofs.Dealings.{deal_meets, coalesce_meets}
 use Rattle.node_laws.proofs.Groupings.{partial_meets, final_meets}
 use Rattle.node_laws.proofs.Paddings.{right_meets, full_meets}
 use Rattle.node_laws.proofs.law.node_laws.Goals as goal
 
 pub returns : goal.returns
 returns c = record {
-  limit = λ h skip fetch d parts m. cut_meets h skip fetch d.props parts m;
+  limit = λ h d ins outs s m. stretches_meet h d.props ins outs s m;
   begun = λ h d whole outs b m. begun_meets h d.props whole outs b m;
   coalesce = coalesce_meets;
   merge = merge_meets;

@@ -9,3 +9,6 @@ returns-clause-single c = λ p size limit start s entries deal full shape starts
 
 pub returns-clause-shared : goal.returns-clause-shared
 returns-clause-shared c = λ p size limit start s entries deal full shape starts reached senders all g. Exchanges.shared p shape size limit start s entries starts reached deal senders full all g
+
+pub returns-clause-ordered : goal.returns-clause-ordered
+returns-clause-ordered c = λ p size limit start s entries deal full shape starts reached senders all u g lone at inside. Exchanges.lone_sender p shape size limit start s entries starts reached deal senders full all u g lone at inside

@@ -9,3 +9,6 @@ returns-clause-flow c = λ p size limit start s entries deal full shape starts r
 
 pub returns-clause-whole : goal.returns-clause-whole
 returns-clause-whole c = λ p size limit start s entries deal full shape starts reached senders all t. Flows.wholes p shape size limit start s entries starts reached deal senders full all t
+
+pub returns-clause-fronts : goal.returns-clause-fronts
+returns-clause-fronts c = λ p size limit start s entries deal full shape starts reached senders all t x inside. Flows.subtrees p shape size limit start s entries starts reached deal senders full all t x inside

@@ -1,4 +1,6 @@
 use Rattle.whole_contents.proofs.SenderKinds
+use Rattle.whole_contents.proofs.Orders
+use Rattle.whole_contents.proofs.Received
 use Rattle.whole_contents.proofs.law.senders_law.Goals as goal
 
 pub returns-clause-batches : goal.returns-clause-batches
@@ -9,3 +11,15 @@ returns-clause-rows c = λ p u g n number small some wide out. SenderKinds.hash_
 
 pub returns-clause-numbered : goal.returns-clause-numbered
 returns-clause-numbered c = λ number n at. SenderKinds.hash_only number n at
+
+pub returns-clause-batches_in_order : goal.returns-clause-batches_in_order
+returns-clause-batches_in_order c = λ to home. Orders.whole_in_order to home
+
+pub returns-clause-rows_in_order : goal.returns-clause-rows_in_order
+returns-clause-rows_in_order c = λ number n. Orders.hash_in_order number n
+
+pub returns-clause-batches_have_rows : goal.returns-clause-batches_have_rows
+returns-clause-batches_have_rows c = λ to. Received.whole_rows to
+
+pub returns-clause-rows_have_rows : goal.returns-clause-rows_have_rows
+returns-clause-rows_have_rows c = λ number n. Received.hash_rows number n

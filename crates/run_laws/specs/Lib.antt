@@ -1,0 +1,4 @@
+pub mod Others
+pub mod Loans
+pub mod Told
+pub mod Kept
