@@ -2,11 +2,10 @@
 use Rattle.std.specs.Prelude.{option_and_then, unsigned_abs, ⊤}
 use Rattle.std.specs.Str.{is_utf8}
 use Rattle.std.proofs.Common.{◌≡◌, refl, ℕ, zero, suc, ◌+◌, ◌-◌, ◌*◌, ◌^◌, ℤ, Bool, true, false, ◌&&◌, cond, ltb, eqb, eq-eqb, eqb-true, Option, Some, None, List, [], ◌∷◌, length, take, drop, Result, Ok, Err, subst, ap, sym, ◌∙◌, inl, inr}
-use Rattle.std.proofs.lemmas.Bool.{and_parts, and_from, cases_Bool}
+use Rattle.std.proofs.lemmas.Bool.{and_from, cases_Bool}
 use Rattle.dfx_value.specs.Checked.{◌>>=◌}
 use Rattle.dfx_value.specs.Decimal.{at_scale}
 use Rattle.dfx_value.specs.Kinds.{is_of, are_of}
-use Rattle.dfx_value.specs.KindedRows.{all_are}
 use Rattle.dfx_value.specs.Number.{Number}
 use Rattle.dfx_value.specs.Parse.{is_empty, filled, parsed, dec_of, dec_parts, if_below, digits, signed, negative, whole, fraction, unsigned, all_zeros, bool_of, int_of}
 use Rattle.dfx_value.specs.declared.kind.Kind.{Kind}

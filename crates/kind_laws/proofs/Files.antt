@@ -1,7 +1,7 @@
 -- Tables of CSV files: their rows, their faults and the numbers of their files.
-use Rattle.std.specs.Prelude.{slice_get, unwrap_or}
-use Rattle.std.specs.List.{list_all, AllPass}
-use Rattle.std.proofs.Common.{◌≡◌, refl, ℕ, zero, suc, ◌+◌, Bool, true, false, cond, eqb, eq-eqb, Option, Some, None, List, [], ◌∷◌, ◌++◌, map, length, Result, Ok, Err, subst, ap, sym, ◌∙◌, arith}
+use Rattle.std.specs.Prelude.{slice_index_or}
+use Rattle.std.specs.List.{list_all}
+use Rattle.std.proofs.Common.{◌≡◌, refl, ℕ, zero, suc, ◌+◌, Bool, true, false, cond, eqb, eq-eqb, Option, Some, None, List, [], ◌∷◌, map, length, Ok, Err, subst, ap, ◌∙◌, arith}
 use Rattle.std.proofs.lemmas.Bool.{and_from}
 use Rattle.std.proofs.lemmas.List.Sums.{AllPass-from_list_all}
 use Rattle.csv.specs.Reading.{records, default_config, strip_bom}
@@ -13,10 +13,9 @@ use Rattle.dfx_outside.specs.Contents.{Contents, content}
 use Rattle.dfx_value.specs.Kinds.{are_of}
 use Rattle.dfx_value.specs.KindedRows.{all_are}
 use Rattle.dfx_value.specs.declared.kind.Kind.{Kind}
-use Rattle.logical_plan.specs.Items.{Cells, Item, rows, faults, concat}
-use Rattle.logical_plan.specs.Body.{Tables}
-use Rattle.scan_run.specs.Sources.{fault_of, item_of, file_items, files_from, table_files, CsvTable, tables_from}
-use Rattle.kind_laws.specs.Tables.{TablesHave, file_at, names_file, FaultsAreNamed}
+use Rattle.logical_plan.specs.Items.{Item, rows, faults, concat}
+use Rattle.scan_run.specs.Sources.{fault_of, item_of, file_items, files_from, CsvTable, tables_from}
+use Rattle.kind_laws.specs.Tables.{TablesHave, file_at, names_file, FaultsAreNamed, table_kinds, file_counts}
 use Rattle.kind_laws.proofs.Rows.{items_append}
 use Rattle.kind_laws.proofs.Fields.{RecordFits, record_fits}
 
@@ -69,21 +68,21 @@ files_fit table file ks [] = refl
 files_fit table file ks (c ∷ cs) =
     items_append ks (file_items table ks file c) (concat (files_from table ks (file + 1) cs)) (file_fits table file ks c) (files_fit table (file + 1) ks cs)
 
-pub tables_fit : (all : Contents) (first : ℕ) (ts : List CsvTable) → TablesHave (map (λ (t : CsvTable). t.kinds) ts) (tables_from all first ts)
+pub tables_fit : (all : Contents) (first : ℕ) (ts : List CsvTable) → TablesHave (table_kinds ts) (tables_from all first ts)
 tables_fit all first [] = tt
 tables_fit all first (t ∷ ts) = (files_fit first 0 t.kinds (map (content all) t.paths), tables_fit all (first + 1) ts)
 
 -- ---- faults, by the numbers of table and file
 
 files_named : (table first : ℕ) (ks : List Kind) (cs : List (Option (List ℕ))) (n : ℕ)
-    → list_all (names_file table (first + n)) (faults (unwrap_or (slice_get (files_from table ks first cs) n) [])) ≡ true
+    → list_all (names_file table (first + n)) (faults (slice_index_or (files_from table ks first cs) n [])) ≡ true
 files_named table first ks [] n = refl
 files_named table first ks (c ∷ cs) zero =
     let e : first ≡ first + 0 = omega arith in
     subst (λ k. list_all (names_file table k) (faults (file_items table ks first c)) ≡ true) e (file_named table first ks c)
 files_named table first ks (c ∷ cs) (suc n) =
     let e : first + 1 + n ≡ first + suc n = omega arith in
-    subst (λ k. list_all (names_file table k) (faults (unwrap_or (slice_get (files_from table ks (first + 1) cs) n) [])) ≡ true) e (files_named table (first + 1) ks cs n)
+    subst (λ k. list_all (names_file table k) (faults (slice_index_or (files_from table ks (first + 1) cs) n [])) ≡ true) e (files_named table (first + 1) ks cs n)
 
 tables_named_from : (all : Contents) (first : ℕ) (ts : List CsvTable) (n file : ℕ)
     → list_all (names_file (first + n) (0 + file)) (faults (file_at (tables_from all first ts) n file)) ≡ true
@@ -113,7 +112,7 @@ contents_counted : (all : Contents) (paths : List (List ℕ)) → length (map (c
 contents_counted all [] = refl
 contents_counted all (p ∷ ps) = ap suc (contents_counted all ps)
 
-pub tables_counted : (all : Contents) (first : ℕ) (ts : List CsvTable) → map length (tables_from all first ts) ≡ map (λ (t : CsvTable). length t.paths) ts
+pub tables_counted : (all : Contents) (first : ℕ) (ts : List CsvTable) → map length (tables_from all first ts) ≡ file_counts ts
 tables_counted all first [] = refl
 tables_counted all first (t ∷ ts) =
     ap (λ n. n ∷ map length (tables_from all (first + 1) ts)) (files_counted first 0 t.kinds (map (content all) t.paths) ∙ contents_counted all t.paths)

@@ -1,7 +1,7 @@
 -- What each node gives of rows of its inputs' kinds.
-use Rattle.std.specs.List.{list_all, flat_map}
+use Rattle.std.specs.List.{list_all}
 use Rattle.std.proofs.Common.{◌≡◌, refl, ℕ, Bool, true, false, cond, Option, Some, None, List, [], ◌∷◌, ◌++◌, map, length, Result, Ok, Err}
-use Rattle.std.proofs.lemmas.Bool.{and_parts, and_from}
+use Rattle.std.proofs.lemmas.Bool.{and_from}
 use Rattle.dfx_value.specs.Checked.{◌>>=◌}
 use Rattle.dfx_value.specs.Kinds.{are_of}
 use Rattle.dfx_value.specs.KindedRows.{all_are}
@@ -17,7 +17,7 @@ use Rattle.scalar_exprs.specs.Groups.{key_list, same_keys, firsts}
 use Rattle.scalar_exprs.specs.Truth.{is_true}
 use Rattle.logical_plan.specs.Items.{Cells, Item, rows, faults, of_rows, of_faults, as_item, all_values, tested, filtered, filter_items, projected_row, projected, project_items}
 use Rattle.logical_plan.specs.Joins.{keys_match, residual, paired, left_pairs, right_pairs, pairs, nulls, alone, left_alone, right_alone, keeps_left, keeps_right, when, joined}
-use Rattle.logical_plan.specs.Groups.{alike, group_of, group_item, one_group, groups, aggregated, distinct}
+use Rattle.logical_plan.specs.Groups.{alike, group_of, group_item, one_group, aggregated, distinct}
 use Rattle.logical_plan.specs.Body.{item_kinds, key_kinds, call_kinds}
 use Rattle.kind_laws.specs.Kinded.{has_kind, has_columns, calls_fit}
 use Rattle.kind_laws.proofs.Rows.{are_append, nulls_are, all_filter, all_firsts, items_append, faults_alone, rows_alone, rows_flat, items_flat, item_is, items_map, rows_map}

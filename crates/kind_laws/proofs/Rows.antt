@@ -1,16 +1,14 @@
 -- Rows of some kinds, put together and picked out.
-use Rattle.std.specs.Prelude.{replicate}
 use Rattle.std.specs.List.{flat_map, filter}
-use Rattle.std.proofs.Common.{◌≡◌, refl, ℕ, zero, suc, Bool, true, false, not, ◌&&◌, cond, Option, Some, None, List, [], ◌∷◌, ◌++◌, map, length, Result, Ok, Err, subst}
+use Rattle.std.proofs.Common.{◌≡◌, refl, Bool, true, false, not, cond, List, [], ◌∷◌, ◌++◌, map, length, Ok, Err}
 use Rattle.std.proofs.lemmas.Bool.{and_parts, and_from}
 use Rattle.dfx_value.specs.Kinds.{is_of, are_of}
 use Rattle.dfx_value.specs.KindedRows.{all_are}
 use Rattle.dfx_value.specs.declared.fault.ItemFault.{ItemFault}
 use Rattle.dfx_value.specs.declared.kind.Kind.{Kind}
-use Rattle.dfx_value.specs.declared.value.Value.{Value}
 use Rattle.scalar_exprs.specs.Groups.{firsts}
 use Rattle.scalar_exprs.proofs.ValueKinds.{null_is_of}
-use Rattle.logical_plan.specs.Items.{Cells, Item, rows, of_rows, of_faults, concat}
+use Rattle.logical_plan.specs.Items.{Cells, Item, rows, of_rows, of_faults}
 use Rattle.logical_plan.specs.Joins.{nulls}
 
 -- ---- one row
@@ -34,9 +32,9 @@ all_filter ks test [] p = refl
 all_filter ks test (r ∷ rs) p =
     let b = and_parts (are_of ks r) (all_are ks rs) p in
     go (test r) b.0 (all_filter ks test rs b.1) where
-  go : (t : Bool) → are_of ks r ≡ true → all_are ks (filter test rs) ≡ true → all_are ks (cond t (r ∷ filter test rs) (filter test rs)) ≡ true
-  go true h more = and_from _ _ h more
-  go false h more = more
+      go : (t : Bool) → are_of ks r ≡ true → all_are ks (filter test rs) ≡ true → all_are ks (cond t (r ∷ filter test rs) (filter test rs)) ≡ true
+      go true h more = and_from _ _ h more
+      go false h more = more
 
 pub all_firsts : (ks : List Kind) (like : Cells → Cells → Bool) (rs : List Cells) → all_are ks rs ≡ true → all_are ks (firsts like rs) ≡ true
 all_firsts ks like [] p = refl

@@ -1,14 +1,13 @@
 -- Expressions, keys and aggregates over rows of some kinds give values of theirs.
-use Rattle.std.specs.Prelude.{slice_get, unwrap_or, is_some, unsigned_abs, nat_lt, ⊤}
-use Rattle.std.specs.List.{list_all, filter}
+use Rattle.std.specs.Prelude.{slice_get, is_some, unsigned_abs, ⊤}
+use Rattle.std.specs.List.{list_all}
 use Rattle.std.specs.Ordering.{is_lt, is_gt}
-use Rattle.std.proofs.Common.{◌≡◌, refl, ℕ, zero, suc, ◌+◌, ◌-◌, ◌*◌, ◌^◌, ◌<◌, ℤ, pos, negsuc, ◌-ℤ◌, Bool, true, false, not, ◌&&◌, ◌||◌, cond, ltb, eqb, eq-eqb, Option, Some, None, List, [], ◌∷◌, ◌++◌, map, length, Result, Ok, Err, subst, ap, sym, ◌∙◌, inl, inr, arith}
+use Rattle.std.proofs.Common.{◌≡◌, refl, ℕ, zero, suc, ◌-◌, ◌*◌, ◌^◌, ◌<◌, ℤ, pos, negsuc, ◌-ℤ◌, Bool, true, false, not, ◌||◌, cond, ltb, eqb, eq-eqb, Option, Some, None, List, [], ◌∷◌, map, length, Result, Ok, Err, subst, sym, inl, inr, arith}
 use Rattle.std.proofs.lemmas.Bool.{and_parts, and_from, cases_Bool, lt-ltb, ltb-true, false≢true}
 use Rattle.dfx_value.specs.Checked.{◌>>=◌}
 use Rattle.dfx_value.specs.Decimal.{fit, mean, nearest, signed_like, at_scale}
 use Rattle.dfx_value.specs.Kinds.{is_of, are_of}
 use Rattle.dfx_value.specs.KindedRows.{all_are}
-use Rattle.dfx_value.specs.Number.{Number}
 use Rattle.dfx_value.specs.Order.{value_cmp}
 use Rattle.dfx_value.specs.Rows.{cell}
 use Rattle.dfx_value.specs.declared.fault.EvalFault.{EvalFault}
@@ -164,9 +163,9 @@ present_fit k [] q = refl
 present_fit k (v ∷ vs) q =
     let b = and_parts (is_of k v) (list_all (is_of k) vs) q in
     go (not (is_null v)) b.0 (present_fit k vs b.1) where
-  go : (t : Bool) → is_of k v ≡ true → list_all (is_of k) (present vs) ≡ true → list_all (is_of k) (cond t (v ∷ present vs) (present vs)) ≡ true
-  go true p more = and_from _ _ p more
-  go false p more = more
+      go : (t : Bool) → is_of k v ≡ true → list_all (is_of k) (present vs) ≡ true → list_all (is_of k) (cond t (v ∷ present vs) (present vs)) ≡ true
+      go true p more = and_from _ _ p more
+      go false p more = more
 
 column_fits : (columns : List Kind) (group : List Cells) (c : ℕ) (k : Kind) → all_are columns group ≡ true → slice_get columns c ≡ Some k → list_all (is_of k) (map (λ row. cell row c) group) ≡ true
 column_fits columns [] c k p e = refl

@@ -1,6 +1,5 @@
 -- The worked query of the README, computed from the definitions.
-use Rattle.std.proofs.Common.{◌≡◌, refl, ℕ, pos, Bool, true, false, List, [], ◌∷◌, None, Some, Ok, Err, ap, ◌∙◌}
-use Rattle.std.specs.Prelude.{codes}
+use Rattle.std.proofs.Common.{◌≡◌, refl, ℕ, pos, true, false, List, [], ◌∷◌, Some, Ok}
 use Rattle.dfx_value.specs.Order.{value_cmp}
 use Rattle.dfx_value.specs.Decimal.{units}
 use Rattle.dfx_value.specs.declared.kind.Kind.{Kind}
@@ -10,7 +9,6 @@ use Rattle.dfx_value.specs.declared.op.JoinKind.TheVariants as join
 use Rattle.dfx_value.specs.declared.op.Op.TheVariants as op
 use Rattle.dfx_value.specs.declared.value.Value.{Value}
 use Rattle.dfx_value.specs.declared.value.Value.TheVariants as value
-use Rattle.scalar_exprs.specs.declared.expr.Expr.{Expr}
 use Rattle.scalar_exprs.specs.declared.expr.Expr.TheVariants.{Column, Const, Binary}
 use Rattle.scalar_exprs.specs.Agg.{agg}
 use Rattle.scalar_exprs.proofs.EvalLemmas.{evals}
@@ -43,8 +41,8 @@ people_kinds = kind.Int ∷ kind.Text ∷ []
 abbrev paid_kinds : List Kind
 paid_kinds = kind.Int ∷ kind.Dec 5 2 ∷ []
 
-abbrev table_kinds : List (List Kind)
-table_kinds = people_kinds ∷ paid_kinds ∷ []
+abbrev kinds_given : List (List Kind)
+kinds_given = people_kinds ∷ paid_kinds ∷ []
 
 abbrev people : List Item
 people = Ok (int 1 ∷ text 97 ∷ []) ∷ Ok (int 2 ∷ text 98 ∷ []) ∷ []
@@ -70,7 +68,7 @@ others = Project of_people (Column 1 ∷ Column 0 ∷ Const value.Null (kind.Dec
 abbrev query : Logical
 query = UnionAll (groups ∷ others ∷ [])
 
-pub well : is_well_kinded table_kinds query ≡ true
+pub well : is_well_kinded kinds_given query ≡ true
 well = simp (kinded_by_node, kinds_by_node, kinds, fits)
 
 pub kinds_are : bodies_of.kinds query ≡ kind.Text ∷ kind.Int ∷ kind.Dec 38 2 ∷ []
@@ -78,7 +76,7 @@ kinds_are = simp (kinds_by_node)
 
 -- so every node gives rows of its kinds, and there are rows
 pub gives : everywhere_kinded tables query ≡ true
-gives = everywhere table_kinds tables (refl, (refl, tt)) query well
+gives = everywhere kinds_given tables (refl, (refl, tt)) query well
 
 pub items_are : body tables query
     ≡ Ok (text 97 ∷ int 1 ∷ cents 150 ∷ []) ∷ Ok (text 98 ∷ int 1 ∷ value.Null ∷ []) ∷ Ok (text 97 ∷ int 1 ∷ value.Null ∷ []) ∷ Ok (text 98 ∷ int 2 ∷ value.Null ∷ []) ∷ []
@@ -86,11 +84,11 @@ unfolding agg value_cmp units
 items_are = simp (bodies, kinds_by_node, evals)
 
 -- a union of other kinds, a test that is a number, and a DISTINCT over no columns
-pub mixed : is_well_kinded table_kinds (UnionAll (of_people ∷ groups ∷ [])) ≡ false
+pub mixed : is_well_kinded kinds_given (UnionAll (of_people ∷ groups ∷ [])) ≡ false
 mixed = simp (kinded_by_node, kinds_by_node, kinds, fits)
 
-pub no_test : is_well_kinded table_kinds (Filter of_people (Column 0)) ≡ false
+pub no_test : is_well_kinded kinds_given (Filter of_people (Column 0)) ≡ false
 no_test = simp (kinded_by_node, kinds_by_node, kinds, fits)
 
-pub no_columns : is_well_kinded table_kinds (Distinct (Project of_people [])) ≡ false
+pub no_columns : is_well_kinded kinds_given (Distinct (Project of_people [])) ≡ false
 no_columns = simp (kinded_by_node, kinds_by_node)

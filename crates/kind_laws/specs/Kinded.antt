@@ -1,5 +1,6 @@
 -- Meaning: bodies of queries that are well-kinded over tables whose columns have these kinds.
-use Rattle.std.specs.Prelude.{ℕ, Bool, true, false, ◌&&◌, nat_lt, Option, Some, None, is_some, List, [], ◌∷◌, ◌++◌, length, slice_get}
+use Rattle.std.specs.Prelude.{ℕ, Bool, true, false, ◌&&◌, nat_lt, Option, Some, None, is_some}
+use Rattle.std.specs.Prelude.{List, [], ◌∷◌, ◌++◌, length, slice_get}
 use Rattle.std.specs.List.{list_all}
 use Rattle.dfx_value.specs.Kinds.{are_kinds}
 use Rattle.dfx_value.specs.declared.kind.Kind.{Kind}
@@ -45,7 +46,8 @@ are_comparable (Some j) (Some k) = one_class j k
 are_comparable _ _ = false
 
 abbrev pub keys_compare : List Kind → List Kind → List (ℕ × ℕ) → Bool
-keys_compare left right = list_all (λ (key : ℕ × ℕ). are_comparable (slice_get left key.0) (slice_get right key.1))
+keys_compare left right =
+    list_all (λ (key : ℕ × ℕ). are_comparable (slice_get left key.0) (slice_get right key.1))
 
 abbrev pub has_columns : List Kind → List ℕ → Bool
 has_columns columns = list_all (λ c. is_some (slice_get columns c))
@@ -77,7 +79,8 @@ kinded_node tables (Logical-F.Scan table ks) = is_table (slice_get tables table)
 kinded_node tables (Logical-F.Filter input test) = input.1 && is_test (kinds input.0) test
 kinded_node tables (Logical-F.Project input items) = input.1 && list_all (has_kind (kinds input.0)) items
 kinded_node tables (Logical-F.Join kind left right keys rest) =
-    left.1 && (right.1 && (keys_compare (kinds left.0) (kinds right.0) keys && is_rest (kinds left.0 ++ kinds right.0) rest))
+    left.1 && (right.1 && (keys_compare (kinds left.0) (kinds right.0) keys
+    && is_rest (kinds left.0 ++ kinds right.0) rest))
 kinded_node tables (Logical-F.Aggregate input keys calls) =
     input.1 && (has_columns (kinds input.0) keys && calls_fit (kinds input.0) calls)
 kinded_node tables (Logical-F.Distinct input) = input.1 && nat_lt 0 (length (kinds input.0))

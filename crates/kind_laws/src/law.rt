@@ -6,9 +6,10 @@ ghost use Rattle.logical_plan.specs.Body.{Tables};
 ghost use Rattle.scan_run.specs.Sources.{CsvTable, tables_from};
 ghost use Rattle.kind_laws.specs.Kinded.{is_well_kinded};
 ghost use Rattle.kind_laws.specs.Giving.{gives_kinds, everywhere_kinded};
-ghost use Rattle.kind_laws.specs.Tables.{TablesHave, FaultsAreNamed};
+ghost use Rattle.kind_laws.specs.Tables.{TablesHave, FaultsAreNamed, table_kinds, file_counts};
 
-/// Over tables of the scans' kinds a well-kinded body gives rows of its kinds (`rows`), and so does every node of it (`nodes`).
+/// Over tables of the scans' kinds a well-kinded body gives rows of its kinds (`rows`), and so does every node
+/// of it (`nodes`).
 pub fn kinds_law()
     ensures rows { (kinds : List (List AKind)) (tables : Tables) (q : ABody) → TablesHave kinds tables
         → is_well_kinded kinds q ≡ true → gives_kinds tables q ≡ true }
@@ -16,10 +17,11 @@ pub fn kinds_law()
         → is_well_kinded kinds q ≡ true → everywhere_kinded tables q ≡ true }
 {}
 
-/// The tables that CSV files mean, whatever the files hold: their rows are of their columns' kinds (`kinds`), each fault names the table and the
-/// file that it is in (`faults`), and a table has as many files as paths (`files`).
+/// The tables that CSV files mean, whatever the files hold: their rows are of their columns' kinds (`kinds`), each
+/// fault names the table and the file that it is in (`faults`), and a table has as many files as paths (`files`).
 pub fn tables_law()
-    ensures kinds { (all : Contents) (ts : List CsvTable) → TablesHave (map (λ (t : CsvTable). t.kinds) ts) (tables_from all 0 ts) }
+    ensures kinds { (all : Contents) (ts : List CsvTable) → TablesHave (table_kinds ts) (tables_from all 0 ts) }
     ensures faults { (all : Contents) (ts : List CsvTable) → FaultsAreNamed (tables_from all 0 ts) }
-    ensures files { (all : Contents) (ts : List CsvTable) → map length (tables_from all 0 ts) ≡ map (λ (t : CsvTable). length t.paths) ts }
+    ensures files { (all : Contents) (ts : List CsvTable)
+        → map length (tables_from all 0 ts) ≡ file_counts ts }
 {}

@@ -1,10 +1,10 @@
 -- A well-kinded body over tables of the scans' kinds is known, and its DISTINCTs are over rows of their kinds.
-use Rattle.std.specs.Prelude.{slice_get, slice_index_or, unwrap_or, nat_lt}
+use Rattle.std.specs.Prelude.{slice_get, slice_index_or, nat_lt}
 use Rattle.std.specs.List.{list_all}
-use Rattle.std.proofs.Common.{◌≡◌, refl, ℕ, zero, suc, ◌==◌, Bool, true, false, ◌&&◌, eqb, eq-eqb, get_or, Option, Some, None, List, [], ◌∷◌, ◌++◌, map, length, subst, ap, sym, ◌∙◌}
-use Rattle.std.proofs.lemmas.Bool.{and_parts, and_from, false≢true}
+use Rattle.std.proofs.Common.{◌≡◌, refl, ℕ, zero, suc, ◌==◌, Bool, true, ◌&&◌, eq-eqb, List, [], ◌∷◌, ◌++◌, map, length, subst, ap, sym, ◌∙◌}
+use Rattle.std.proofs.lemmas.Bool.{and_parts, and_from}
 use Rattle.dfx_outside.specs.Contents.{Contents}
-use Rattle.dfx_value.specs.Kinds.{are_of, are_kinds}
+use Rattle.dfx_value.specs.Kinds.{are_of}
 use Rattle.dfx_value.specs.KindedRows.{all_are}
 use Rattle.dfx_value.specs.declared.kind.Kind.{Kind}
 use Rattle.dfx_value.proofs.BatchLemmas.{length-are_of}
@@ -13,13 +13,12 @@ use Rattle.logical_plan.specs.declared.plan.Logical.{Logical}
 use Rattle.logical_plan.specs.declared.plan.Logical.TheOpen.{Logical-F}
 use Rattle.logical_plan.specs.declared.plan.Logical.TheViews.{roll-Logical}
 use Rattle.logical_plan.specs.declared.plan.Logical.TheFolds.{para-roll-Logical, map-Logical, ind-Logical}
-use Rattle.logical_plan.specs.Items.{Cells, Item, rows, concat}
-use Rattle.logical_plan.specs.Body.{Tables, Part, whole, body, kinds, scan}
+use Rattle.logical_plan.specs.Items.{Cells, rows, concat}
+use Rattle.logical_plan.specs.Body.{Tables, whole, body, kinds}
 use Rattle.logical_plan.proofs.BodySteps.{kinds_at}
 use Rattle.scan_run.specs.Sources.{CsvTable, tables_from}
 use Rattle.kind_laws.specs.Kinded.{same_kinds, has_kind, is_test, is_rest, keys_compare, has_columns, calls_fit, is_table, all_as, are_united, kinded_node, is_well_kinded}
-use Rattle.kind_laws.specs.Giving.{gives_kinds}
-use Rattle.kind_laws.specs.Tables.{TablesHave}
+use Rattle.kind_laws.specs.Tables.{TablesHave, table_kinds, file_counts}
 use Rattle.kind_laws.proofs.Bodies.{scan_gives, kinded_rolled, giving}
 use Rattle.kind_laws.proofs.Files.{tables_fit, tables_counted}
 use Rattle.answer_laws.specs.Meant.{files_of}
@@ -125,15 +124,17 @@ module _ (kss : List (List Kind)) (tables : Tables) (have : TablesHave kss table
       (b.0, and_from (is_known tables files x.0) (is_kinded (whole tables x.0)) b.1 (kinded x.0 a.0))))
   step (Logical-F.Distinct x) = level (Logical-F.Distinct x.0) (λ e. (
       let a = and_parts (is_well_kinded kss x.0) (nat_lt 0 (length (kinds x.0))) e in
-      let b = x.1 a.0 in
-      (and_from (has_distincts tables x.0) (nat_lt 0 (length (whole tables x.0).kinds) && is_kinded (whole tables x.0)) b.0
-      (and_from (nat_lt 0 (length (whole tables x.0).kinds)) (is_kinded (whole tables x.0)) (many x.0 a.1) (kinded x.0 a.0)), b.1)))
+      let b = x.1 a.0 in (
+        and_from (has_distincts tables x.0) (nat_lt 0 (length (whole tables x.0).kinds) && is_kinded (whole tables x.0)) b.0
+            (and_from (nat_lt 0 (length (whole tables x.0).kinds)) (is_kinded (whole tables x.0)) (many x.0 a.1) (kinded x.0 a.0)),
+        b.1,
+      )))
   step (Logical-F.UnionAll xs) = level (Logical-F.UnionAll (bodies xs)) (λ e. unions xs e)
 
   pub met : (q : Logical) → IsMet q
   met = ind-Logical IsMet (λ x y is. subst (λ z. IsMet (roll-Logical z)) is (step y))
 
-pub csv_met : (all : Contents) (ts : List CsvTable) (q : Logical) → is_well_kinded (map (λ (t : CsvTable). t.kinds) ts) q ≡ true
-    → (has_distincts (tables_from all 0 ts) q ≡ true) × (is_known (tables_from all 0 ts) (map (λ (t : CsvTable). length t.paths) ts) q ≡ true)
-csv_met all ts q e =
-    met (map (λ (t : CsvTable). t.kinds) ts) (tables_from all 0 ts) (tables_fit all 0 ts) (map (λ (t : CsvTable). length t.paths) ts) (sym (tables_counted all 0 ts)) q e
+-- over the tables that CSV files mean
+pub csv_met : (all : Contents) (ts : List CsvTable) (q : Logical) → is_well_kinded (table_kinds ts) q ≡ true
+    → (has_distincts (tables_from all 0 ts) q ≡ true) × (is_known (tables_from all 0 ts) (file_counts ts) q ≡ true)
+csv_met all ts q e = met (table_kinds ts) (tables_from all 0 ts) (tables_fit all 0 ts) (file_counts ts) (sym (tables_counted all 0 ts)) q e
