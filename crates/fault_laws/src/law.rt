@@ -8,6 +8,8 @@ ghost use Rattle.core_frame.specs.Step.{Fail};
 ghost use Rattle.run_histories.specs.Histories.{Past, Reply};
 ghost use Rattle.physical_plan.specs.declared.plan.Plan.{Plan};
 ghost use Rattle.physical_plan.specs.Layout.{shape};
+ghost use Rattle.dfx_outside.specs.Contents.{Contents};
+ghost use Rattle.scan_run.specs.Sources.{CsvTable, tables_from};
 ghost use Rattle.logical_plan.specs.declared.query.Query.{Query as AQuery};
 ghost use Rattle.logical_plan.specs.Items.{Cells, Item, faults, concat};
 ghost use Rattle.logical_plan.specs.Body.{Tables, all_faults};
@@ -84,4 +86,9 @@ pub fn cause_law()
         → state_replay (shape p) size steps (Some (start_of f p limit)) entries ≡ Some s
         → state_step (shape p) size steps s e ≡ Some next → e.kind ≡ Failed cause → is_of_fault cause ≡ true
         → EndsAt (all_faults tables q.body) (places_of p) cause }
+{}
+
+/// The faults of CSV files name their table and their number in it.
+pub fn tables_law()
+    ensures { (all : Contents) (tables : List CsvTable) → AreNamed (tables_from all 0 tables) }
 {}
