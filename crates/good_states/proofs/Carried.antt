@@ -1,20 +1,18 @@
 -- In a group by a hash each channel carries rows of its number alone.
-use Rattle.std.specs.List.{AllPass, sum_by}
-use Rattle.std.proofs.Common.{ℕ, suc, ◌+◌, ◌<◌, ◌≡◌, refl, sym, ap, ◌∙◌, subst, List, [], ◌∷◌, ◌++◌, length, Bool, true, arith}
+use Rattle.std.specs.List.{AllPass}
+use Rattle.std.proofs.Common.{ℕ, suc, ◌<◌, ◌≡◌, sym, ap, ◌∙◌, subst, List, [], ◌∷◌, ◌++◌, length, Bool, arith}
 use Rattle.std.proofs.lemmas.List.Sums.{sum_by-append}
 use Rattle.run_journal.specs.declared.entry.Entry.{Entry}
-use Rattle.core_frame.specs.Shape.{receives_at}
-use Rattle.core_frame.specs.Frame.{channel_of}
 use Rattle.run_histories.specs.Contents.{took}
 use Rattle.physical_plan.specs.declared.plan.Plan.{Plan}
 use Rattle.physical_plan.specs.Layout.{shape}
-use Rattle.logical_plan.specs.Items.{Cells, Item, of_rows, concat}
+use Rattle.logical_plan.specs.Items.{Item, of_rows, concat}
 use Rattle.task_trees.specs.Runs.{State, IsReached}
 use Rattle.whole_contents.specs.SenderKinds.{is_at}
 use Rattle.whole_contents.specs.Whole.{past_in, AreFull, IsFull}
 use Rattle.whole_contents.proofs.Bags.{none_fails, all_pass, fails}
 use Rattle.plan_tasks.specs.Trees.{Doing}
-use Rattle.plan_tasks.specs.Tops.{Way, Written, ByHash, InTurn, ToOne, ToOwn, Top, top, tops, all_tops}
+use Rattle.plan_tasks.specs.Tops.{Written, ByHash, Top, all_tops}
 use Rattle.plan_tasks.specs.Starts.{start_of}
 use Rattle.plan_tasks.specs.Reading.{AreOperators}
 use Rattle.plan_tasks.specs.Placed.{deal_of, IsHashing, HasChannels}

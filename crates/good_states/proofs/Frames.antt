@@ -1,5 +1,5 @@
 -- What is said of frames and histories in every state that a plan's run reaches.
-use Rattle.std.proofs.Common.{ℕ, ◌≡◌, List}
+use Rattle.std.proofs.Common.{ℕ, List}
 use Rattle.run_journal.specs.declared.entry.Entry.{Entry}
 use Rattle.core_frame.specs.Good.{IsGood}
 use Rattle.core_frame.proofs.Sound.{sound, lawful_goes_on}

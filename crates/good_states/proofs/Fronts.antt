@@ -1,9 +1,9 @@
 -- What trees of a state gave so far is a front of what they would give of whole channels.
-use Rattle.std.proofs.Common.{ℕ, ◌≡◌, ◌⊎◌, inl, inr, refl, sym, ap, ◌∙◌, subst, List, [], ◌∷◌, ◌++◌, map, Bool}
+use Rattle.std.proofs.Common.{ℕ, refl, sym, subst, List, [], ◌∷◌, map}
 use Rattle.run_histories.specs.Histories.{Past}
 use Rattle.logical_plan.specs.Items.{Cells, Item, of_rows}
-use Rattle.task_trees.specs.Operators.{Told, Op, IsFront}
-use Rattle.task_trees.specs.Trees.{Desk, Tree, Nothing, Files, Inlet, Node, IsSubtree, Form, form}
+use Rattle.task_trees.specs.Operators.{IsFront}
+use Rattle.task_trees.specs.Trees.{Tree, Nothing, Files, Inlet, Node, IsSubtree, Form}
 use Rattle.task_trees.specs.Linked.{IsLinked, IsFlow, whole}
 use Rattle.task_trees.proofs.Wholes.{whole_of}
 use Rattle.task_trees.proofs.Subtrees.{linked_inside, inlet_inside}

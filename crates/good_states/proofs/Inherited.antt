@@ -1,12 +1,12 @@
 -- What holds of a plan where it stands, and passes from each node to its inputs, holds of every node.
 use Rattle.std.specs.List.{AllByRecursion}
-use Rattle.std.proofs.Common.{ℕ, ◌+◌, ◌≡◌, subst, List, [], ◌∷◌, ◌++◌, map, refl}
+use Rattle.std.proofs.Common.{ℕ, ◌+◌, ◌≡◌, subst, List, [], ◌∷◌, ◌++◌, map}
 use Rattle.physical_plan.specs.declared.plan.Plan.{Plan}
 use Rattle.physical_plan.specs.declared.plan.Plan.TheOpen.{Plan-F}
 use Rattle.physical_plan.specs.declared.plan.Plan.TheViews.{roll-Plan}
 use Rattle.physical_plan.specs.declared.plan.Plan.TheFolds.{para-roll-Plan, map-Plan, ind-Plan}
 use Rattle.plan_tasks.specs.Trees.{stages_in, sources_in}
-use Rattle.good_states.specs.Sites.{Site, site, Listing, listed, listed_after, list_node, sites_below}
+use Rattle.good_states.specs.Sites.{Site, site, Listing, listed_after, list_node, sites_below}
 
 -- of inputs, one after the other
 abbrev pub AllFrom : (Plan → ℕ → ℕ → Type 0) → List Plan → ℕ → ℕ → Type 0

@@ -7,3 +7,4 @@ pub mod Nodes
 pub mod Carried
 pub mod Frames
 pub mod Laws
+mod Worked

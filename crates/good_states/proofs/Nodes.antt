@@ -1,16 +1,14 @@
 -- What the nodes of a plan gave, in a state that its run reaches.
 use Rattle.std.specs.List.{AllByRecursion}
-use Rattle.std.proofs.Common.{ℕ, zero, suc, ◌+◌, ◌<◌, ◌≡◌, refl, sym, ap, ◌∙◌, subst, List, [], ◌∷◌, ◌++◌, length, get_or, map, Bool, true, false, Option, arith, zero-add, add-zero}
+use Rattle.std.proofs.Common.{ℕ, zero, suc, ◌+◌, ◌<◌, ◌≡◌, refl, sym, ap, ◌∙◌, subst, List, [], ◌∷◌, ◌++◌, length, get_or, map, true, Option, arith, zero-add, add-zero}
 use Rattle.std.proofs.lemmas.Bool.{false≢true}
-use Rattle.std.proofs.lemmas.List.{length-append}
 use Rattle.run_journal.specs.declared.entry.Entry.{Entry}
-use Rattle.plan_props.specs.Meets.{Row, Hashing, part}
+use Rattle.plan_props.specs.Meets.{Hashing, part}
 use Rattle.physical_plan.specs.declared.plan.Plan.{Plan}
 use Rattle.physical_plan.specs.declared.plan.Plan.TheOpen.{Plan-F}
 use Rattle.physical_plan.specs.declared.plan.Plan.TheViews.{roll-Plan}
 use Rattle.physical_plan.specs.Layout.{shape, numbers, numbers_from}
-use Rattle.physical_plan.specs.Properties.{props, declared_of}
-use Rattle.physical_plan.specs.Planned.{Test, everywhere}
+use Rattle.physical_plan.specs.Properties.{declared_of}
 use Rattle.physical_plan.proofs.Shapes.{is_shape}
 use Rattle.node_laws.specs.Nodes.{Stands}
 use Rattle.node_laws.specs.Rows.{Begins, Begun, IsStretch, Stretches}
@@ -20,10 +18,10 @@ use Rattle.logical_plan.specs.Body.{Tables}
 use Rattle.task_trees.specs.Operators.{Op, IsFront}
 use Rattle.task_trees.specs.OperatorKinds.{cut, limit_op}
 use Rattle.sorted_answers.proofs.Limits.{cut_stretch}
-use Rattle.task_trees.specs.Trees.{Tree, Nothing, IsSubtree, Form, form}
+use Rattle.task_trees.specs.Trees.{Tree, Nothing, IsSubtree, form}
 use Rattle.task_trees.specs.Linked.{IsLinked, IsFlow, whole}
 use Rattle.task_trees.specs.Tasks.{Task}
-use Rattle.task_trees.specs.Runs.{State, the_task, IsReached}
+use Rattle.task_trees.specs.Runs.{State, IsReached}
 use Rattle.whole_contents.specs.Whole.{past_in, tree_in, AreFull}
 use Rattle.whole_contents.proofs.Flows.{flows}
 use Rattle.plan_tasks.specs.Trees.{Doing, Growing, Seed, leaf, passing, partitions_of}
@@ -229,15 +227,15 @@ module _ (h : Hashing) (f : Doing) (tables : Tables) (n : ℕ) (phases : Phases)
       let b : there.Found s f (roll-Plan z) 1 0 = subst (λ (q : Plan). there.Found s f q 1 0) (sym e) found in
       let x : Known r 1 0 = (feeding.down f full z 1 0 a, there.down s f z 1 0 b, sound) in
       let root : (ts : List Tree) → AreTreesOf s (partitions_of f (roll-Plan z) 1 0) ts → IsBegun h tables phases (roll-Plan z) ts = λ ts t. (
-        let xs = map (whole full) ts in
-        let g = limit_gives r skip fetch 1 0 xs (wholes_given size full s linked flow (partitions_of f (roll-Plan z) 1 0) ts t) in
-        let d = passed full (f.operator z 1) (partitions_of f r 1 0) xs g in
-        record {
-          wholes = xs;
-          fronts = all_fronts size full s linked flow (partitions_of f (roll-Plan z) 1 0) ts t;
-          stand = plan_stands h n (Plan-F.Limit (r, map rows d.0) skip fetch) (map rows xs) (stands h f tables n phases engine full r sound 1 0 x.0 d.0 d.1, tt) tt (stretches r skip fetch d.0 xs d.2);
-          tell = λ told. absurd (false≢true (sym (told_rolled tables n anyhow z) ∙ told));
-        }) in
+      let xs = map (whole full) ts in
+      let g = limit_gives r skip fetch 1 0 xs (wholes_given size full s linked flow (partitions_of f (roll-Plan z) 1 0) ts t) in
+      let d = passed full (f.operator z 1) (partitions_of f r 1 0) xs g in
+      record {
+        wholes = xs;
+        fronts = all_fronts size full s linked flow (partitions_of f (roll-Plan z) 1 0) ts t;
+        stand = plan_stands h n (Plan-F.Limit (r, map rows d.0) skip fetch) (map rows xs) (stands h f tables n phases engine full r sound 1 0 x.0 d.0 d.1, tt) tt (stretches r skip fetch d.0 xs d.2);
+        tell = λ told. absurd (false≢true (sym (told_rolled tables n anyhow z) ∙ told));
+      }) in
       let top : IsGoodNode h f tables phases s (site (roll-Plan z) 1 0) = record {
         there = b.0;
         meets = λ ts t. (begun_meets (roll-Plan z) ts (root ts t)).meets;

@@ -1,17 +1,16 @@
 -- Each node has its trees in the tasks of a state.
 use Rattle.std.specs.List.{AllByRecursion}
-use Rattle.std.proofs.Common.{ℕ, zero, suc, ◌+◌, ◌≡◌, ◌⊎◌, inl, inr, refl, sym, ap, ◌∙◌, subst, List, [], ◌∷◌, ◌++◌, length, get_or, map, Bool, true, false}
-use Rattle.plan_props.specs.Satisfies.{partition_count}
+use Rattle.std.proofs.Common.{ℕ, ◌+◌, ◌≡◌, inl, inr, refl, ap, ◌∙◌, subst, List, [], ◌∷◌, ◌++◌, length, get_or, map, Bool, true, false}
 use Rattle.physical_plan.specs.declared.plan.Plan.{Plan}
 use Rattle.physical_plan.specs.declared.plan.Plan.TheOpen.{Plan-F}
 use Rattle.physical_plan.specs.declared.plan.Plan.TheViews.{roll-Plan}
 use Rattle.physical_plan.specs.declared.plan.Plan.TheFolds.{map-Plan}
 use Rattle.task_trees.specs.Operators.{Told, Op}
-use Rattle.task_trees.specs.Trees.{Desk, Tree, Nothing, Files, Inlet, Node, IsSubtree, Form, NoForm, FilesForm, InletForm, NodeForm, form}
+use Rattle.task_trees.specs.Trees.{Desk, Tree, Nothing, Files, Inlet, Node, IsSubtree, Form, NoForm, NodeForm, form}
 use Rattle.task_trees.specs.Runs.{State}
 use Rattle.whole_contents.specs.Whole.{tree_in}
 use Rattle.plan_tasks.specs.Trees.{Doing, Seed, Growing, node, grow, grown_after, partitions_of, leaf, passing, holding, pairing, paired, stages_in, sources_in}
-use Rattle.plan_tasks.specs.Tops.{Way, Top, Topping, top_node, tops, tops_after, opening}
+use Rattle.plan_tasks.specs.Tops.{Top, Topping, top_node, tops, tops_after}
 use Rattle.plan_tasks.specs.Starts.{seeds_of}
 use Rattle.plan_tasks.proofs.Laws.{grown, topped}
 use Rattle.good_states.specs.Good.{IsTreeOf, AreTreesOf}
