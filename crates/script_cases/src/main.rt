@@ -13,6 +13,8 @@ mod sections;
 #[cfg(test)]
 mod tests;
 
+ghost use Rattle.std.specs.Prelude.{◌<◌, length, IfOk};
+
 use crate::report::{Outcome, Report, counts_of};
 use crate::runner::run_topic;
 use std::io::ErrorKind;
@@ -67,7 +69,9 @@ fn report_on(rt: &HostRuntime, path: &str) -> io::Result<Report> {
 }
 
 /// Runs the files of cases one after the other, prints what differs, and gives the outcomes of all records.
-fn run_all(rt: &HostRuntime) -> io::Result<Vec<Outcome>> {
+fn run_all(rt: &HostRuntime) -> io::Result<Vec<Outcome>>
+    ensures { IfOk result (λ outcomes. 0 < length outcomes.items) }
+{
     let mut outcomes = Vec::new(rt.alloc());
     for path in &paths_of_cases(rt)? {
         let report = report_on(rt, path.as_str())?;
