@@ -227,9 +227,7 @@ fn record_of(alloc: Global, group: &Group) -> Result<Record, Refused> {
     for part in &group.parts {
         draft.take(alloc, part).map_err(|why| why.at(part.line))?;
     }
-    draft
-        .record(alloc, line, words)
-        .map_err(|why| why.at(line))
+    draft.record(alloc, line, words).map_err(|why| why.at(line))
 }
 
 /// A common file, or the one that lets a common folder be there.

@@ -129,7 +129,8 @@ fn what_differs_fails(rt: HostRuntime) -> Result<(), Fail> {
 }
 
 /// A table of two rows, and a query of it.
-const ROWS: &str = "# two rows\n== file t.csv escaped\na\\x2cb\n1,\"x\n\"\n2,y\n# the query\n== query escaped\n# it answers\nCREATE EXTERNAL TABLE t (a BIGINT, b VARCHAR) STORED AS CSV LOCATION 't.csv'; \\\nSELECT b FROM t\n";
+const ROWS: &str =
+    "# two rows\n== file t.csv escaped\na\\x2cb\n1,\"x\n\"\n2,y\n# the query\n== query escaped\n# it answers\nCREATE EXTERNAL TABLE t (a BIGINT, b VARCHAR) STORED AS CSV LOCATION 't.csv'; \\\nSELECT b FROM t\n";
 
 #[test]
 fn answers_are_compared(rt: HostRuntime) -> Result<(), Fail> {
