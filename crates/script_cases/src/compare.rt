@@ -1,5 +1,8 @@
 //! Whether standard output is what it must be.
 
+ghost use Rattle.std.specs.Prelude.{◌≡◌, IsTrue, IfOk};
+ghost use Rattle.script_cases.specs.Outcomes.{MeetsOutput};
+
 use crate::record::Output;
 use std::alloc::{AllocError, Global};
 use std::mem;
@@ -40,7 +43,9 @@ fn sorted_rows(alloc: Global, text: &[u8]) -> Result<Rows, AllocError> {
 }
 
 /// Whether standard output is what it must be.
-pub fn is_met(alloc: Global, wanted: &Output, output: &[u8]) -> Result<bool, AllocError> {
+pub fn is_met(alloc: Global, wanted: &Output, output: &[u8]) -> Result<bool, AllocError>
+    ensures { IfOk result (λ yes. IsTrue yes → MeetsOutput wanted.now output.now) }
+{
     match wanted {
         Output::Exactly(bytes) => Ok(bytes.as_slice() == output),
         Output::InAnyOrder(bytes) => {

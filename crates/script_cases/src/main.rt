@@ -9,9 +9,10 @@ mod refused;
 mod report;
 mod runner;
 mod sections;
-
 #[cfg(test)]
 mod tests;
+
+ghost use Rattle.std.specs.Prelude.{◌<◌, length, IfOk};
 
 use crate::report::{Outcome, Report, counts_of};
 use crate::runner::run_topic;
@@ -48,26 +49,36 @@ fn paths_of_cases(rt: &HostRuntime) -> io::Result<Vec<String>> {
     }
 }
 
+/// The name of the file at a path.
+fn name_of(path: &str) -> &str {
+    match path.rsplit_once('/') {
+        Some((_, name)) => name,
+        None => path,
+    }
+}
+
 /// What the records of the file at a path gave; a file that can't be read counts as a record that failed.
-fn report_on(rt: &HostRuntime, path: &str) -> io::Result<Report> {
-    if !path.ends_with(".cases") {
-        return Ok(Report::of_refused(
-            rt.alloc(),
-            path,
-            "no file of cases",
-        )?);
+fn report_on(rt: &HostRuntime, path: &str) -> io::Result<Report>
+    ensures { IfOk result (λ report. 0 < length report.outcomes.items) }
+{
+    let name = name_of(path);
+    if !name.ends_with(".cases") {
+        let report = Report::of_refused(rt.alloc(), name, "no file of cases")?;
+        return Ok(report);
     }
     match fs::read_to_string(rt, path) {
-        Ok(text) => Ok(run_topic(rt.alloc(), path, text.as_str())?),
+        Ok(text) => Ok(run_topic(rt.alloc(), name, text.as_str())?),
         Err(error) => {
             let why = format!(in rt.alloc(); "{error}")?;
-            Ok(Report::of_refused(rt.alloc(), path, why.as_str())?)
+            Ok(Report::of_refused(rt.alloc(), name, why.as_str())?)
         }
     }
 }
 
 /// Runs the files of cases one after the other, prints what differs, and gives the outcomes of all records.
-fn run_all(rt: &HostRuntime) -> io::Result<Vec<Outcome>> {
+fn run_all(rt: &HostRuntime) -> io::Result<Vec<Outcome>>
+    ensures { IfOk result (λ outcomes. 0 < length outcomes.items) }
+{
     let mut outcomes = Vec::new(rt.alloc());
     for path in &paths_of_cases(rt)? {
         let report = report_on(rt, path.as_str())?;

@@ -1,10 +1,12 @@
 //! From the sections of a file of cases to its steps.
 
-use crate::record::{Expected, Failing, File, Output, Record, Step};
+ghost use Rattle.std.specs.Prelude.{◌≡◌, map, IfOk};
+
+use crate::record::{Expected, Failing, File, Output, Record, Says, Step};
 use crate::refused::{Refused, Why};
 use crate::sections::{Group, Section, groups_of};
 use dfx_value::{Text, TextRefused};
-use std::alloc::Global;
+use std::alloc::{AllocError, Global};
 
 /// The path of the script of a record that has one.
 const SCRIPT: &str = "s.sql";
@@ -225,9 +227,7 @@ fn record_of(alloc: Global, group: &Group) -> Result<Record, Refused> {
     for part in &group.parts {
         draft.take(alloc, part).map_err(|why| why.at(part.line))?;
     }
-    draft
-        .record(alloc, line, words)
-        .map_err(|why| why.at(line))
+    draft.record(alloc, line, words).map_err(|why| why.at(line))
 }
 
 /// A common file, or the one that lets a common folder be there.
@@ -249,25 +249,44 @@ fn common_of(alloc: Global, section: &Section) -> Result<File, Why> {
 }
 
 /// What a group of sections says.
-fn step_of(alloc: Global, group: &Group) -> Result<Step, Refused> {
+fn read_group(alloc: Global, group: &Group) -> Result<Says, Refused> {
     if group.first.is_record() {
-        return Ok(Step::Record(record_of(alloc, group)?));
+        return Ok(Says::Record(record_of(alloc, group)?));
     }
     let common = common_of(alloc, &group.first).map_err(|why| why.at(group.first.line))?;
     match group.parts.first() {
         Some(part) => Err(Why::PartUnwanted.at(part.line)),
-        None => Ok(Step::Common(common)),
+        None => Ok(Says::Common(common)),
     }
 }
 
-/// The steps of a file of cases. What means nothing is a step too, so that the records behind it are run.
-pub fn steps_of(alloc: Global, text: &str) -> Result<Vec<Step>, Refused> {
+/// The step of a group. What means nothing is a step too, so that the records behind it are run.
+fn step_of(alloc: Global, group: &Group) -> Step
+    ensures { result.line ≡ group.now.first.line }
+{
+    let says = match read_group(alloc, group) {
+        Ok(says) => says,
+        Err(refused) => Says::Refused(refused),
+    };
+    Step {
+        line: group.first.line,
+        says,
+    }
+}
+
+/// The steps of groups: one of each, in order.
+fn read_groups(alloc: Global, groups: &[Group]) -> Result<Vec<Step>, AllocError>
+    ensures { IfOk result (λ steps. map (λ step. step.line) steps.items ≡ map (λ group. group.first.line) groups.now) }
+{
     let mut steps = Vec::new(alloc);
-    for group in &groups_of(alloc, text)? {
-        let step = step_of(alloc, group).unwrap_or_else(Step::Refused);
-        steps
-            .push(step)
-            .map_err(|_| Why::NoMemory.at(group.first.line))?;
+    for group in groups {
+        steps.push(step_of(alloc, group))?;
     }
     Ok(steps)
+}
+
+/// The steps of a file of cases.
+pub fn steps_of(alloc: Global, text: &str) -> Result<Vec<Step>, Refused> {
+    let groups = groups_of(alloc, text)?;
+    read_groups(alloc, groups.as_slice()).map_err(|_| Why::NoMemory.at(1))
 }

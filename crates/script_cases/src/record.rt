@@ -3,9 +3,16 @@
 use crate::refused::Refused;
 use dfx_value::Text;
 
-/// What a file of cases says, one step after the other.
+/// What a group of sections says, and the number of its first line.
 #[derive(Debug, Drop)]
-pub enum Step {
+pub struct Step {
+    pub line: u32,
+    pub says: Says,
+}
+
+/// What a group of sections says.
+#[derive(Debug, Drop)]
+pub enum Says {
     /// A file that lies there for each record behind it, in place of an earlier one at its path.
     Common(File),
     /// A command, and what it must leave.

@@ -1,3 +1,5 @@
+ghost use Rattle.std.specs.Prelude.{◌≡◌};
+
 use dfx_value::NoMemory;
 use std::alloc::{AllocError, AllocFailed};
 use thiserror::Error;
@@ -42,12 +44,20 @@ pub enum Why {
 }
 
 impl From<AllocError> for Why {
+    ghost use Rattle.script_cases.specs.declared.refused.Why.TheVariants.{NoMemory};
+
+    ghost from_gives = { λ _ e. e ≡ NoMemory };
+
     fn from(_error: AllocError) -> Why {
         Why::NoMemory
     }
 }
 
 impl<T: Drop> From<AllocFailed<T>> for Why {
+    ghost use Rattle.script_cases.specs.declared.refused.Why.TheVariants.{NoMemory};
+
+    ghost from_gives = { λ _ e. e ≡ NoMemory };
+
     fn from(_error: AllocFailed<T>) -> Why {
         Why::NoMemory
     }

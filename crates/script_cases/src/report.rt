@@ -1,5 +1,9 @@
 //! What is said of the records of a file of cases.
 
+ghost use Rattle.std.specs.Prelude.{◌≡◌, ◌+◌, [], ◌∷◌, ◌++◌, length, count_by, OnOk, IfOk};
+ghost use Rattle.script_cases.specs.Outcomes as spec;
+ghost use Rattle.script_cases.specs.declared.report.Outcome.TheVariants as went;
+
 use crate::escapes::shown;
 use crate::record::{Output, Record};
 use crate::refused::Refused;
@@ -12,6 +16,17 @@ use std::fmt;
 pub enum Outcome {
     Passed,
     Failed,
+}
+
+impl Outcome {
+    fn is_passed(self) -> bool
+        ensures { result ≡ spec.is_passed self }
+    {
+        match self {
+            Outcome::Passed => true,
+            Outcome::Failed => false,
+        }
+    }
 }
 
 /// How many records passed, and how many failed.
@@ -30,10 +45,13 @@ impl fmt::Display for Counts {
 }
 
 /// How many of these passed, and how many failed.
-pub fn counts_of(outcomes: &[Outcome]) -> Counts {
+pub fn counts_of(outcomes: &[Outcome]) -> Counts
+    ensures sum { result.passed + result.failed ≡ length outcomes.now }
+    ensures passed { result.passed ≡ count_by spec.is_passed outcomes.now }
+{
     let passed = outcomes
         .iter()
-        .filter(|outcome| **outcome == Outcome::Passed)
+        .filter(|outcome| outcome.is_passed())
         .count();
     Counts {
         passed,
@@ -51,7 +69,9 @@ pub struct Report {
 
 impl Report {
     /// Of the file with a name, of which no record was run yet.
-    pub fn new(alloc: Global, name: &str) -> Result<Report, AllocError> {
+    pub fn new(alloc: Global, name: &str) -> Result<Report, AllocError>
+        ensures { IfOk result (λ report. report.outcomes.items ≡ []) }
+    {
         Ok(Report {
             name: String::from_str(alloc, name)?,
             text: String::new(alloc),
@@ -60,7 +80,9 @@ impl Report {
     }
 
     /// Of a file that has no records, for the given reason.
-    pub fn of_refused(alloc: Global, name: &str, why: &str) -> Result<Report, AllocError> {
+    pub fn of_refused(alloc: Global, name: &str, why: &str) -> Result<Report, AllocError>
+        ensures { IfOk result (λ report. report.outcomes.items ≡ went.Failed ∷ []) }
+    {
         let mut report = Report::new(alloc, name)?;
         report.outcomes.push(Outcome::Failed)?;
         writeln!(report.text, "{name}: {why}")?;
@@ -74,17 +96,24 @@ impl Report {
     }
 
     /// How each record went.
-    pub fn outcomes(&self) -> &[Outcome] {
+    pub fn outcomes(&self) -> &[Outcome]
+        ensures { result.now ≡ self.now.outcomes.items }
+    {
         self.outcomes.as_slice()
     }
 
-    pub fn add_passed(&mut self) -> Result<(), AllocError> {
+    /// Adds a record that passed.
+    pub fn add_passed(&mut self) -> Result<(), AllocError>
+        ensures { OnOk result (self.new.outcomes.items ≡ self.old.outcomes.items ++ went.Passed ∷ []) }
+    {
         self.outcomes.push(Outcome::Passed)?;
         Ok(())
     }
 
     /// Adds what means nothing.
-    pub fn add_refused(&mut self, refused: Refused) -> Result<(), AllocError> {
+    pub fn add_refused(&mut self, refused: Refused) -> Result<(), AllocError>
+        ensures { OnOk result (self.new.outcomes.items ≡ self.old.outcomes.items ++ went.Failed ∷ []) }
+    {
         self.outcomes.push(Outcome::Failed)?;
         let Refused { line, why } = refused;
         writeln!(self.text, "{}:{line}: {why}", self.name)
@@ -96,7 +125,9 @@ impl Report {
         alloc: Global,
         record: &Record,
         left: &Left,
-    ) -> Result<(), AllocError> {
+    ) -> Result<(), AllocError>
+        ensures { OnOk result (self.new.outcomes.items ≡ self.old.outcomes.items ++ went.Failed ∷ []) }
+    {
         self.outcomes.push(Outcome::Failed)?;
         let expected = &record.expected;
         let (wanted, came) = (expected.status, left.status);
@@ -115,14 +146,18 @@ impl Report {
         self.add_bytes(alloc, "error that came", left.error.bytes())
     }
 
-    fn add_bytes(&mut self, alloc: Global, title: &str, bytes: &[u8]) -> Result<(), AllocError> {
+    fn add_bytes(&mut self, alloc: Global, title: &str, bytes: &[u8]) -> Result<(), AllocError>
+        ensures { self.new.outcomes ≡ self.old.outcomes }
+    {
         let shown = shown(alloc, bytes)?;
         writeln!(self.text, "  {title}:")?;
         self.text.push_str(shown.as_str())
     }
 
     /// Adds the line with the counts.
-    pub fn end(&mut self) -> Result<(), AllocError> {
+    pub fn end(&mut self) -> Result<(), AllocError>
+        ensures { self.new.outcomes ≡ self.old.outcomes }
+    {
         let counts = counts_of(self.outcomes.as_slice());
         writeln!(self.text, "{}: {counts}", self.name)
     }

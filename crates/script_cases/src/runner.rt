@@ -1,8 +1,11 @@
 //! Runs records: the command, over files and sinks in memory.
 
+ghost use Rattle.std.specs.Prelude.{◌≡◌, ◌+◌, ◌<◌, length, count_by, IsTrue, OnOk, IfOk};
+ghost use Rattle.script_cases.specs.Outcomes.{is_counted, Meets};
+
 use crate::compare::is_met;
 use crate::parser::steps_of;
-use crate::record::{File, Record, Step};
+use crate::record::{Expected, File, Record, Says, Step};
 use crate::refused::Why;
 use crate::report::Report;
 use dfx_outside::{MemFiles, MemSink};
@@ -18,41 +21,37 @@ pub struct Left {
     pub error: MemSink,
 }
 
-/// The common file at a path.
-fn has_file(files: &[File], path: &Text) -> bool {
+/// Whether there is a file at a path.
+fn has_file(files: &[&File], path: &Text) -> bool {
     files.iter().any(|file| file.path == *path)
 }
 
-/// Adds copies of files that a record sees.
-fn add_copies<'a>(
-    alloc: Global,
-    seen: &mut Vec<(Text, Bytes)>,
-    file: &File,
-) -> Result<(), NoMemory> {
+/// Adds a copy of a file.
+fn add_copy(alloc: Global, seen: &mut Vec<(Text, Bytes)>, file: &File) -> Result<(), NoMemory> {
     let bytes = Vec::from_slice(alloc, file.bytes.as_slice())?;
     seen.push((file.path.copy(alloc)?, Bytes::from_vec(bytes)))?;
     Ok(())
 }
 
+/// Whether a record sees a common file.
+fn sees(record: &Record, common: &File) -> bool {
+    !record.files.iter().any(|file| file.path == common.path)
+        && !record.absent.contains(&common.path)
+}
+
 /// The files that are there for a record.
-fn files_for(
-    alloc: Global,
-    commons: &[File],
-    record: &Record,
-) -> Result<Vec<(Text, Bytes)>, Why> {
+fn files_for(alloc: Global, commons: &[&File], record: &Record) -> Result<Vec<(Text, Bytes)>, Why> {
     if !record.absent.iter().all(|path| has_file(commons, path)) {
         return Err(Why::NoSuchFile);
     }
     let mut seen = Vec::new(alloc);
     for file in commons {
-        let is_hidden = has_file(record.files.as_slice(), &file.path)
-            || record.absent.contains(&file.path);
-        if !is_hidden {
-            add_copies(alloc, &mut seen, file)?;
+        if sees(record, file) {
+            add_copy(alloc, &mut seen, file)?;
         }
     }
     for file in &record.files {
-        add_copies(alloc, &mut seen, file)?;
+        add_copy(alloc, &mut seen, file)?;
     }
     Ok(seen)
 }
@@ -76,7 +75,7 @@ fn failing_reads(
 }
 
 /// Runs the command of a record.
-fn run(alloc: Global, commons: &[File], record: &Record) -> Result<Left, Why> {
+fn run(alloc: Global, commons: &[&File], record: &Record) -> Result<Left, Why> {
     let files = files_for(alloc, commons, record)?;
     let failing = failing_reads(alloc, files.as_slice(), record)?;
     let files = MemFiles::new(alloc, files, failing);
@@ -98,24 +97,38 @@ fn run(alloc: Global, commons: &[File], record: &Record) -> Result<Left, Why> {
 }
 
 /// Whether a command left what it must.
-fn is_passed(alloc: Global, record: &Record, left: &Left) -> Result<bool, AllocError> {
-    let expected = &record.expected;
-    Ok(left.status == expected.status
-        && left.error.bytes() == expected.error.as_slice()
-        && is_met(alloc, &expected.output, left.output.bytes())?)
+fn meets(
+    alloc: Global,
+    expected: &Expected,
+    status: u8,
+    output: &[u8],
+    error: &[u8],
+) -> Result<bool, AllocError>
+    ensures { IfOk result (λ yes. IsTrue yes → Meets expected.now status output.now error.now) }
+{
+    if status != expected.status {
+        return Ok(false);
+    }
+    if error != expected.error.as_slice() {
+        return Ok(false);
+    }
+    is_met(alloc, &expected.output, output)
 }
 
 /// Runs a record, and adds how it went to the report.
 fn run_record(
     alloc: Global,
-    commons: &[File],
+    commons: &[&File],
     record: &Record,
     report: &mut Report,
-) -> Result<(), AllocError> {
+) -> Result<(), AllocError>
+    ensures { OnOk result (length report.new.outcomes.items ≡ length report.old.outcomes.items + 1) }
+{
     match run(alloc, commons, record) {
         Err(why) => report.add_refused(why.at(record.line)),
         Ok(left) => {
-            if is_passed(alloc, record, &left)? {
+            let (output, error) = (left.output.bytes(), left.error.bytes());
+            if meets(alloc, &record.expected, left.status, output, error)? {
                 report.add_passed()
             } else {
                 report.add_failed(alloc, record, &left)
@@ -125,29 +138,35 @@ fn run_record(
 }
 
 /// Puts a common file in place of the one at its path.
-fn put_common(commons: &mut Vec<File>, file: File) -> Result<(), AllocError> {
+fn put_common<'a>(commons: &mut Vec<&'a File>, file: &'a File) -> Result<(), AllocError> {
     commons.retain(|one| one.path != file.path);
     commons.push(file)?;
     Ok(())
 }
 
-/// Runs the records of a file of cases, and says how they went.
-pub fn run_topic(alloc: Global, name: &str, text: &str) -> Result<Report, AllocError> {
-    let mut report = Report::new(alloc, name)?;
+/// Runs the records among these steps. Each of them counts once, and so does what means nothing.
+fn run_steps(alloc: Global, steps: &[Step], report: &mut Report) -> Result<(), AllocError>
+    ensures { OnOk result (length report.new.outcomes.items ≡ length report.old.outcomes.items + count_by is_counted steps.now) }
+{
     let mut commons = Vec::new(alloc);
+    for step in steps {
+        match &step.says {
+            Says::Common(file) => put_common(&mut commons, file)?,
+            Says::Refused(refused) => report.add_refused(*refused)?,
+            Says::Record(record) => run_record(alloc, commons.as_slice(), record, report)?,
+        }
+    }
+    Ok(())
+}
+
+/// Runs the records of a file of cases, and says how they went. A file without records counts as one that failed.
+pub fn run_topic(alloc: Global, name: &str, text: &str) -> Result<Report, AllocError>
+    ensures { IfOk result (λ report. 0 < length report.outcomes.items) }
+{
+    let mut report = Report::new(alloc, name)?;
     match steps_of(alloc, text) {
         Err(refused) => report.add_refused(refused)?,
-        Ok(steps) => {
-            for step in steps {
-                match step {
-                    Step::Common(file) => put_common(&mut commons, file)?,
-                    Step::Refused(refused) => report.add_refused(refused)?,
-                    Step::Record(record) => {
-                        run_record(alloc, commons.as_slice(), &record, &mut report)?;
-                    }
-                }
-            }
-        }
+        Ok(steps) => run_steps(alloc, steps.as_slice(), &mut report)?,
     }
     if report.outcomes().is_empty() {
         report.add_refused(Why::NoRecords.at(1))?;

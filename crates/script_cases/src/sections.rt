@@ -25,11 +25,15 @@ pub struct Group {
 }
 
 impl Section {
-    fn new(alloc: Global, line: u32, first_line: &str) -> Result<Section, AllocError> {
-        let first_line = first_line.strip_suffix('\n').unwrap_or(first_line);
-        let (head, is_escaped) = match first_line.strip_suffix(" escaped") {
+    /// A section whose first line has this behind its mark.
+    fn new(alloc: Global, line: u32, marked: &str) -> Result<Section, Why> {
+        let marked = marked.strip_suffix('\n').unwrap_or(marked);
+        let Some(head) = marked.strip_prefix(' ') else {
+            return Err(Why::UnknownSection);
+        };
+        let (head, is_escaped) = match head.strip_suffix(" escaped") {
             Some(head) => (head, true),
-            None => (first_line, false),
+            None => (head, false),
         };
         Ok(Section {
             line,
@@ -134,20 +138,20 @@ fn is_comment(line: &str) -> bool {
 
 /// Adds a line of the file.
 fn put_line(alloc: Global, groups: &mut Vec<Group>, number: u32, line: &str) -> Result<(), Why> {
-    if let Some(head) = line.strip_prefix("== ") {
+    if let Some(head) = line.strip_prefix("==") {
         groups.push(Group::new(alloc, Section::new(alloc, number, head)?))?;
         return Ok(());
     }
     let Some(group) = groups.last_mut() else {
         return if is_comment(line) {
             Ok(())
-        } else if line.starts_with("=> ") {
+        } else if line.starts_with("=>") {
             Err(Why::PartFirst)
         } else {
             Err(Why::TextFirst)
         };
     };
-    match line.strip_prefix("=> ") {
+    match line.strip_prefix("=>") {
         Some(head) => group.add(Section::new(alloc, number, head)?)?,
         None => group.put(line)?,
     }
