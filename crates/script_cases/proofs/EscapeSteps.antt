@@ -14,6 +14,7 @@ pub behind_none : (rest : Option (List ℕ)) → behind_all [] rest ≡ rest
 behind_none None = refl
 behind_none (Some rest) = refl
 
-pub behind_byte : (done : List ℕ) (b : ℕ) (rest : Option (List ℕ)) → behind_all done (option_map (λ bytes. b ∷ bytes) rest) ≡ behind_all (done ++ b ∷ []) rest
+pub behind_byte : (done : List ℕ) (b : ℕ) (rest : Option (List ℕ))
+    → behind_all done (option_map (λ bytes. b ∷ bytes) rest) ≡ behind_all (done ++ b ∷ []) rest
 behind_byte done b None = refl
 behind_byte done b (Some rest) = ap Some (search (append_assoc))
