@@ -1,9 +1,6 @@
 -- What an escaped text stands for, behind bytes that were read.
 use Rattle.std.proofs.Common.{◌≡◌, refl, ap, ℕ, List, [], ◌∷◌, ◌++◌, Option, Some, None, append_assoc}
 use Rattle.std.specs.Prelude.{option_map}
-use Rattle.script_cases.specs.declared.escapes.Seen.TheVariants as seen
-use Rattle.script_cases.specs.declared.escapes.Seen.{Seen}
-use Rattle.script_cases.specs.Escapes.{meant, ended}
 
 -- these bytes, and then the others
 abbrev pub behind_all : List ℕ → Option (List ℕ) → Option (List ℕ)
