@@ -18,11 +18,13 @@ names_file table file (Arrow t f number batch column place) = (t == table) && (f
 
 -- each fault in a file of a table names them
 abbrev pub AreNamed : Tables → Type 0
-AreNamed tables = (table file : ℕ) → AllPass (names_file table file) (faults (slice_index_or (files_of tables table) file []))
+AreNamed tables =
+    (table file : ℕ) → AllPass (names_file table file) (faults (slice_index_or (files_of tables table) file []))
 
--- the cause is one of these faults: of an evaluation by an operator, or one that names a file, at a source that is this file, where the sources
--- are these files
+-- the cause is one of these faults: of an evaluation by an operator, or one that names a file, at a source that is
+-- this file, where the sources are these files
 abbrev pub EndsAt : List ItemFault → List (ℕ × ℕ) → Cause → Type 0
 EndsAt met places cause = (f : ItemFault) × IsIn f met
     × (IsEvaluation f cause
-    ⊎ ((source table file : ℕ) × (slice_get places source ≡ Some (table, file)) × (names_file table file f ≡ true) × (cause ≡ cause_at source f)))
+    ⊎ ((source table file : ℕ) × (slice_get places source ≡ Some (table, file)) × (names_file table file f ≡ true)
+    × (cause ≡ cause_at source f)))
