@@ -39,7 +39,8 @@ use Rattle.plan_tasks.specs.Sources.{places_of}
 use Rattle.node_laws.specs.Tests.{needs_in_range}
 use Rattle.finished_plans.specs.Known.{is_known}
 use Rattle.finished_plans.proofs.Channels.{channels}
-use Rattle.fault_laws.specs.Named.{AreNamed, EndsAt}
+use Rattle.kind_laws.specs.Tables.{FaultsAreNamed}
+use Rattle.fault_laws.specs.Named.{EndsAt}
 use Rattle.fault_laws.proofs.Named.{named}
 use Rattle.fault_laws.proofs.Planned.{told_top}
 use Rattle.fault_laws.specs.Met.{met_of}
@@ -107,7 +108,7 @@ meant hash f tables many engine q distincts files known more p fin ranges size l
     (causes.ends hash f tables many engine p (channels (build q files many) p q.order many more fin) (told_top the_phases engine.lists tables q distincts files known many more p fin ranges)
     size limit steps entries s next e cause replay step k of)
 
-pub at_file : (hash : Hashing) (f : Doing) (tables : Tables) (many : ℕ) → IsEngineBy hash f tables many the_phases → AreNamed tables → (q : Query) → has_distincts tables q.body ≡ true
+pub at_file : (hash : Hashing) (f : Doing) (tables : Tables) (many : ℕ) → IsEngineBy hash f tables many the_phases → FaultsAreNamed tables → (q : Query) → has_distincts tables q.body ≡ true
     → (files : List ℕ) → is_known tables files q.body ≡ true → 0 < many → (p : Plan) → IsFinished (build q files many) q.order many p → everywhere needs_in_range p ≡ true
     → (size limit steps : ℕ) (entries : List Entry) (s next : State) (e : Entry) (cause : Cause)
     → state_replay (shape p) size steps (Some (start_of f p limit)) entries ≡ Some s → state_step (shape p) size steps s e ≡ Some next

@@ -16,7 +16,8 @@ use Rattle.plan_tasks.proofs.Sources.{by_number, by_place}
 use Rattle.answer_laws.specs.Meant.{files_of}
 use Rattle.answer_laws.proofs.Meaning.{both_true}
 use Rattle.fault_laws.specs.Found.{IsIn, Ends}
-use Rattle.fault_laws.specs.Named.{names_file, AreNamed, EndsAt}
+use Rattle.kind_laws.specs.Tables.{names_file, FaultsAreNamed}
+use Rattle.fault_laws.specs.Named.{EndsAt}
 
 same_head : {A : Type 0} (x y : A) (xs ys : List A) → x ∷ xs ≡ y ∷ ys → x ≡ y
 same_head x y xs ys e = cc
@@ -66,7 +67,7 @@ passes_in test (y ∷ ys) x e h =
       | inr i ↦ passes_in test ys x b.1 i
     ]
 
-pub named : (f : Doing) (tables : Tables) → ((table file : ℕ) → f.items table file ≡ get_or (files_of tables table) file []) → AreNamed tables → (p : Plan) (met : List ItemFault) (cause : Cause)
+pub named : (f : Doing) (tables : Tables) → ((table file : ℕ) → f.items table file ≡ get_or (files_of tables table) file []) → FaultsAreNamed tables → (p : Plan) (met : List ItemFault) (cause : Cause)
     → Ends met (plan_files f p 0) cause → EndsAt met (places_of p) cause
 named f tables items are p met cause h = (
   h.0,

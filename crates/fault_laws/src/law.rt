@@ -8,8 +8,6 @@ ghost use Rattle.core_frame.specs.Step.{Fail};
 ghost use Rattle.run_histories.specs.Histories.{Past, Reply};
 ghost use Rattle.physical_plan.specs.declared.plan.Plan.{Plan};
 ghost use Rattle.physical_plan.specs.Layout.{shape};
-ghost use Rattle.dfx_outside.specs.Contents.{Contents};
-ghost use Rattle.scan_run.specs.Sources.{CsvTable, tables_from};
 ghost use Rattle.logical_plan.specs.declared.query.Query.{Query as AQuery};
 ghost use Rattle.logical_plan.specs.Items.{Cells, Item, faults, concat};
 ghost use Rattle.logical_plan.specs.Body.{Tables, all_faults};
@@ -34,7 +32,8 @@ ghost use Rattle.plan_tasks.specs.Sources.{places_of};
 ghost use Rattle.node_laws.specs.Tests.{needs_in_range};
 ghost use Rattle.finished_plans.specs.Known.{is_known};
 ghost use Rattle.finished_plans.specs.Engine.{IsEngineBy};
-ghost use Rattle.fault_laws.specs.Named.{AreNamed, EndsAt};
+ghost use Rattle.kind_laws.specs.Tables.{FaultsAreNamed};
+ghost use Rattle.fault_laws.specs.Named.{EndsAt};
 ghost use Rattle.fault_laws.specs.Met.{met_of};
 ghost use Rattle.fault_laws.specs.Trees.{Meets, LeavesPass};
 ghost use Rattle.fault_laws.specs.Found.{Found, IsIn, Ends, is_of_fault, IsTold, IsToldTop};
@@ -91,7 +90,7 @@ pub fn cause_law()
         → state_step (shape p) size steps s e ≡ Some next → e.kind ≡ Failed cause → is_of_fault cause ≡ true
         → Ends (all_faults tables q.body) (files_of f p 0) cause }
     ensures named { (h : Hashing) (f : Doing) (tables : Tables) (n : ℕ) → IsEngineBy h f tables n the_phases
-        → AreNamed tables
+        → FaultsAreNamed tables
         → (q : AQuery) → has_distincts tables q.body ≡ true → (files : List ℕ) → is_known tables files q.body ≡ true
         → 0 < n
         → (p : Plan) → IsFinished (build q files n) q.order n p → everywhere needs_in_range p ≡ true
@@ -99,9 +98,4 @@ pub fn cause_law()
         → state_replay (shape p) size steps (Some (start_of f p limit)) entries ≡ Some s
         → state_step (shape p) size steps s e ≡ Some next → e.kind ≡ Failed cause → is_of_fault cause ≡ true
         → EndsAt (all_faults tables q.body) (places_of p) cause }
-{}
-
-/// The faults of CSV files name their table and their number in it.
-pub fn tables_law()
-    ensures { (all : Contents) (tables : List CsvTable) → AreNamed (tables_from all 0 tables) }
 {}

@@ -14,7 +14,7 @@ linked_inside size past x (Node op t d inputs) k (inl e) = subst (IsLinked size 
 linked_inside size past x (Node op t d inputs) k (inr e) = linked_inside size past x (inputs e.0) (k.1 e.0) e.1
 
 -- a tree's channels are those of the tree that it stands in
-inlet_inside : (g c : ℕ) (x t : Tree) → IsSubtree x t → HasInlet g c x → HasInlet g c t
+pub inlet_inside : (g c : ℕ) (x t : Tree) → IsSubtree x t → HasInlet g c x → HasInlet g c t
 inlet_inside g c x Nothing e h = subst (HasInlet g c) e h
 inlet_inside g c x (Files all files gave unread) e h = subst (HasInlet g c) e h
 inlet_inside g c x (Inlet a d gave unread over) e h = subst (HasInlet g c) e h

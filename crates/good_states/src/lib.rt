@@ -1,0 +1,6 @@
+//! What holds of every state that a plan's run reaches.
+#![tactic(auto)]
+
+mod law;
+
+pub use law::good_law;
