@@ -1,4 +1,4 @@
--- Meaning: what holds of every state that a plan's run reaches: of its frame, its histories, and what the plan's nodes gave.
+-- Meaning: what holds of every state that a plan's run reaches: of its frame, its histories, and what its nodes gave.
 use Rattle.std.specs.Prelude.{ℕ, ◌<◌, ◌≡◌, true, List, [], ◌∷◌, ◌++◌, map}
 use Rattle.std.specs.List.{AllPass, AllByRecursion}
 use Rattle.plan_props.specs.Meets.{Hashing, Meets}
@@ -47,32 +47,40 @@ AreFronts [] [] = Unit {0}
 AreFronts (t ∷ ts) (x ∷ xs) = IsFront (of_rows (so_far t)) x × AreFronts ts xs
 AreFronts _ _ = ⊥
 
--- what a node's partitions gave so far is a front of wholes of which all that the node declares stands; and these together tell what the node
--- means, but for a limit, which means what it chooses from
+-- what a node's partitions gave so far is a front of wholes of which all that the node declares stands; and together these
+-- tell what the node means, but for a limit, which means what it chooses from
 pub record IsBegun (h : Hashing) (tables : Tables) (phases : Phases) (p : Plan) (ts : List Tree) : Type 0 where
   pub wholes : List (List Item)
   pub fronts : AreFronts ts wholes
   pub stand : Stands h (declared_of p) (map rows wholes)
   pub tell : is_told tables anyhow p ≡ true → Tells phases (meaning_of tables p) wholes
 
--- the node has its trees in the state's tasks; and whichever they are, what they gave so far meets what the node declares, and is begun
+-- these are a node's trees
+abbrev pub AreTreesAt : Doing → State → Site → List Tree → Type 0
+AreTreesAt f s x ts = AreTreesOf s (partitions_of f x.plan x.stage x.source) ts
+
+-- the node has its trees in the state's tasks; and whichever they are, what they gave so far meets what the node declares,
+-- and is begun
 pub record IsGoodNode (h : Hashing) (f : Doing) (tables : Tables) (phases : Phases) (s : State) (x : Site) : Type 0 where
-  pub there : (ts : List Tree) × AreTreesOf s (partitions_of f x.plan x.stage x.source) ts
-  pub meets : (ts : List Tree) → AreTreesOf s (partitions_of f x.plan x.stage x.source) ts → Meets h (props x.plan) (map so_far ts)
-  pub begun : (ts : List Tree) → AreTreesOf s (partitions_of f x.plan x.stage x.source) ts → IsBegun h tables phases x.plan ts
+  pub there : (ts : List Tree) × AreTreesAt f s x ts
+  pub meets : (ts : List Tree) → AreTreesAt f s x ts → Meets h (props x.plan) (map so_far ts)
+  pub begun : (ts : List Tree) → AreTreesAt f s x ts → IsBegun h tables phases x.plan ts
 
 -- ------------------------------------------------------------ good states
 
 -- in a group by a hash each channel carries rows of its number alone: those that its receiver took, and those that it holds
+-- while it is live
 abbrev pub CarriesOwn : Doing → Plan → State → Type 0
 CarriesOwn f p s = (before after : List Top) (t : Top) → all_tops p ≡ before ++ t ∷ after
-    → (columns : List ℕ) (n : ℕ) → t.way ≡ ByHash columns n → (c u : ℕ) → c < n → receives_at (shape p) u t.stage c ≡ true
+    → (columns : List ℕ) (n : ℕ) → t.way ≡ ByHash columns n
+    → (c u : ℕ) → c < n → receives_at (shape p) u t.stage c ≡ true
     → AllPass (is_at (f.channel columns n) c) (of_rows (concat (took t.stage c (past_in s u))))
     × ((channel_of s.run.frame t.stage c).live ≡ true
     → AllPass (is_at (f.channel columns n) c) (of_rows (concat (channel_of s.run.frame t.stage c).batches)))
 
 pub record Good (h : Hashing) (f : Doing) (tables : Tables) (phases : Phases) (p : Plan) (s : State) : Type 0 where
-  -- who waits waits for room or for a batch that may come; each task is in one place, and somebody goes on; no more is held than the limit
+  -- who waits waits for room or for a batch that may come; each task is in one place, and somebody goes on; and no more
+  -- is held than the limit
   pub frame : IsGood (shape p) s.run.frame
   -- each consumer holds what its task's history keeps
   pub held : IsHeld (shape p) s.run.frame s.run.pasts

@@ -25,7 +25,8 @@ csv_tables _ _ = []
 abbrev pub tables_of : Contents → Script → Prepared → Tables
 tables_of all script p = tables_from all 0 (csv_tables script.tables p.paths)
 
--- a script is prepared to this over files of these contents, for at least one partition; and its query is well-kinded over its tables
+-- a script is prepared to this over files of these contents, for at least one partition; and its query is well-kinded
+-- over its tables
 pub record IsPrepared (text : List ℕ) (all : Contents) (n : ℕ) (script : Script) (p : Prepared) : Type 0 where
   pub some : 0 < n
   pub script : script_of text ≡ Ok script
