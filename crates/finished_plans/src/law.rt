@@ -69,8 +69,8 @@ pub fn declared_law()
 {}
 
 /// Where the exchanges of a sound plan are fed, what it declares stands of what its partitions would give (`stand`),
-/// and that tells what the plan means (`tells`). So where the root of such a plan's run has finished, its output is
-/// what the plan means (`alike`).
+/// and that tells what the plan means (`tells`). So where the root of such a plan's run has finished, its output has
+/// the rows of what the plan means, in some order (`alike`).
 ///
 /// Where the root of a finished plan's run has finished, its output is an answer that the query allows (`allowed`).
 pub fn planned_answer_law()

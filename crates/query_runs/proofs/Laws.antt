@@ -83,7 +83,7 @@ module _ (h : Hashing) (is : IsHash h) (amount : Plan-F Plan → Amount) (text :
   reached_by : (size limit : ℕ) (entries : List Entry) (s : State) → Leads (shape p.plan) size (start_of doing p.plan limit) entries s → IsReached (shape p.plan) size limit (start_of doing p.plan limit) entries s
   reached_by size limit entries s l = reached (shape p.plan) (is_shape p.plan) size l.0 limit (start_of doing p.plan limit) (is_start doing engine.operators p.plan size limit) entries s l.1
 
-  pub good : (size limit : ℕ) (entries : List Entry) (s : State) → Leads (shape p.plan) size (start_of doing p.plan limit) entries s → Good h doing tables the_phases p.plan s
+  pub good : (size limit : ℕ) (entries : List Entry) (s : State) → Leads (shape p.plan) size (start_of doing p.plan limit) entries s → Good size h doing tables the_phases p.plan s
   good size limit entries s l = good_states.good h doing tables n the_phases engine p.query met.0 files met.1 ready.some p.plan planned.planned (all_needs_ranged p.plan planned.ranges) size limit entries s (reached_by size limit entries s l)
 
   pub answer : (size limit : ℕ) (entries : List Entry) (s : State) → Leads (shape p.plan) size (start_of doing p.plan limit) entries s → place_of s.run.frame 0 ≡ Done → Allowed p.query tables (the_task s.tasks 0).output

@@ -36,7 +36,7 @@ pub fn query_runs_law()
         → (text : List ℕ) (all : Contents) (n : ℕ) (script : AScript) (p : Ready) → IsPrepared text all n script p
         → (size limit : ℕ) (entries : List Entry) (s : State)
         → Leads (shape p.plan) size (start_of (doing_of h amount (tables_of all script p)) p.plan limit) entries s
-        → Good h (doing_of h amount (tables_of all script p)) (tables_of all script p) the_phases p.plan s }
+        → Good size h (doing_of h amount (tables_of all script p)) (tables_of all script p) the_phases p.plan s }
     ensures answer { (h : Hashing) → IsHash h → (amount : Node APlan → Amount)
         → (text : List ℕ) (all : Contents) (n : ℕ) (script : AScript) (p : Ready) → IsPrepared text all n script p
         → (size limit : ℕ) (entries : List Entry) (s : State)
