@@ -1,4 +1,4 @@
-//! Tests of the texts of plans and failures, and of what scripts are prepared to.
+//! Tests of the texts of plans and expressions that are made by hand, and of failures.
 #![tactic(auto)]
 
 #[cfg(test)]
@@ -8,8 +8,4 @@ mod failures;
 #[cfg(test)]
 mod nodes;
 #[cfg(test)]
-mod scripts;
-#[cfg(test)]
 mod shown;
-#[cfg(test)]
-mod worked;
