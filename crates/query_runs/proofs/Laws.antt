@@ -56,7 +56,7 @@ use Rattle.query_runs.proofs.Prepared.{IsOf, is_of, kinds_are, counts_are}
 
 module _ (h : Hashing) (is : IsHash h) (amount : Plan-F Plan → Amount) (text : List ℕ) (all : Contents) (n : ℕ) (script : Script) (p : Prepared) (ready : IsPrepared text all n script p) where
   made : IsOf script n p
-  made = is_of text all n script p ready.script ready.prepared
+  made = is_of text all n script p ready.spelled ready.ready
 
   abbrev files : List ℕ
   files = map length p.paths

@@ -22,11 +22,12 @@ pub record IsOf (script : Script) (n : ℕ) (p : Prepared) : Type 0 where
 
 counted : (all : Contents) (found : List (List Path)) (ts : List TableAst) (paths : List (List Path)) → files_behind all found ts ≡ Ok paths → length paths ≡ length found + length ts
 counted all found [] paths e = (let a : found ≡ paths = cc in sym (ap length a) ∙ (let z : length found ≡ length found + 0 = omega arith in z))
-counted all found (t ∷ ts) paths e = go (table_files all t) e
+counted all found (t ∷ ts) paths e = go (table_files all t) (λ files h. counted all (found ++ files ∷ []) ts paths h) e
   where
-    go : (r : Result (List Path) Failure) → followed r (λ files. files_behind all (found ++ files ∷ []) ts) ≡ Ok paths → length paths ≡ length found + suc (length ts)
-    go (Ok files) h = (let a = counted all (found ++ files ∷ []) ts paths h in let b = length-append found (files ∷ []) in omega arith)
-    go (Err refusal) h = cc
+    go : (r : Result (List Path) Failure) → ((files : List Path) → files_behind all (found ++ files ∷ []) ts ≡ Ok paths → length paths ≡ length (found ++ files ∷ []) + length ts)
+        → followed r (λ files. files_behind all (found ++ files ∷ []) ts) ≡ Ok paths → length paths ≡ length found + suc (length ts)
+    go (Ok files) k h = (let a = k files h in let b = length-append found (files ∷ []) in omega arith)
+    go (Err refusal) k h = cc
 
 bound_is : (a : Answer Query) (q : Query) → of_bound a ≡ Ok q → a ≡ Ok q
 bound_is (Ok x) q e = (let a : x ≡ q = cc in ap Ok a)
@@ -35,9 +36,6 @@ bound_is (Err refusal) q e = cc
 query_is : (script : Script) (q : Query) → query_of script ≡ Ok q → bound script (map schema_of script.tables) ≡ Ok q
 unfolding query_of
 query_is script q e = bound_is (bound script (map schema_of script.tables)) q e
-
-abbrev query_or : Prepared → Prepared
-query_or p = p
 
 of_query : (script : Script) (n : ℕ) (paths : List (List Path)) (p : Prepared) → length paths ≡ length script.tables → (r : Result Query Failure) → query_of script ≡ r
     → followed r (λ q. Ok (with_files script.tables n paths q)) ≡ Ok p → IsOf script n p

@@ -29,8 +29,8 @@ tables_of all script p = tables_from all 0 (csv_tables script.tables p.paths)
 -- over its tables
 pub record IsPrepared (text : List ℕ) (all : Contents) (n : ℕ) (script : Script) (p : Prepared) : Type 0 where
   pub some : 0 < n
-  pub script : script_of text ≡ Ok script
-  pub prepared : prepared text all n ≡ Ok p
+  pub spelled : script_of text ≡ Ok script
+  pub ready : prepared text all n ≡ Ok p
   pub kinded : is_well_kinded (map (λ t. (schema_of t).kinds) script.tables) p.query.body ≡ true
 
 -- what the nodes of its plan do: rows go to channels by a hash of their keys, and reserve any amounts
