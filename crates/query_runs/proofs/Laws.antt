@@ -1,6 +1,6 @@
 -- From what a script is prepared to, to all that is said of every run of its plan.
 use Rattle.std.specs.Prelude.{max}
-use Rattle.std.proofs.Common.{ℕ, ◌≡◌, refl, sym, ap, ◌∙◌, subst, List, [], ◌∷◌, map, length, true, Some}
+use Rattle.std.proofs.Common.{ℕ, ◌≡◌, sym, ap, ◌∙◌, subst, List, [], ◌∷◌, map, length, true, Some}
 use Rattle.std.proofs.Math.Nat.{le-max_left, le-max_right}
 use Rattle.run_journal.specs.declared.entry.Entry.{Entry}
 use Rattle.run_journal.specs.declared.entry.EntryKind.TheVariants.{Failed}
@@ -9,26 +9,21 @@ use Rattle.core_frame.specs.Frame.{place_of}
 use Rattle.core_frame.specs.declared.place.Place.TheVariants.{Done}
 use Rattle.dfx_outside.specs.Contents.{Contents}
 use Rattle.sql_grammar.specs.declared.ast.Script.{Script}
-use Rattle.sql_grammar.specs.declared.ast.TableAst.{TableAst}
-use Rattle.dfx_prepare.specs.Preparing.{schema_of, plan_of}
+use Rattle.dfx_prepare.specs.Preparing.{schema_of}
 use Rattle.dfx_prepare.specs.declared.prepared.Prepared.{Prepared}
 use Rattle.plan_props.specs.Meets.{Hashing, IsHash}
 use Rattle.physical_plan.specs.declared.plan.Plan.{Plan}
 use Rattle.physical_plan.specs.declared.plan.Plan.TheOpen.{Plan-F}
 use Rattle.physical_plan.specs.Layout.{shape}
-use Rattle.physical_plan.specs.Planned.{everywhere, IsFinished}
 use Rattle.physical_plan.proofs.Shapes.{is_shape}
-use Rattle.physical_build.specs.Build.{build}
-use Rattle.node_laws.specs.Tests.{needs_in_range}
 use Rattle.range_laws.specs.Wholly.{IsWhollyPlanned}
 use Rattle.range_laws.proofs.Facts.{all_needs_ranged}
 use Rattle.range_laws.proofs.Wholly.{wholly_planned}
 use Rattle.binder_laws.proofs.Bounds.{bound_in_range}
 use Rattle.logical_plan.specs.Allowed.{Allowed}
 use Rattle.logical_plan.specs.Body.{all_faults, Tables}
-use Rattle.scan_run.specs.Sources.{CsvTable}
 use Rattle.kind_laws.specs.Kinded.{is_well_kinded}
-use Rattle.kind_laws.specs.Tables.{table_kinds, file_counts}
+use Rattle.kind_laws.specs.Tables.{table_kinds}
 use Rattle.kind_laws.proofs.Files.{tables_named}
 use Rattle.known_laws.proofs.Known.{csv_met}
 use Rattle.task_trees.specs.Runs.{State, the_task, IsReached}

@@ -1,8 +1,7 @@
 -- What a script is prepared to: its bound query, with its plan, over as many lists of files as it has tables.
-use Rattle.std.proofs.Common.{ℕ, zero, suc, ◌+◌, ◌≡◌, refl, sym, ap, ◌∙◌, List, [], ◌∷◌, ◌++◌, length, map, Result, Ok, Err, subst, arith}
+use Rattle.std.proofs.Common.{ℕ, suc, ◌+◌, ◌≡◌, refl, sym, ap, ◌∙◌, List, [], ◌∷◌, ◌++◌, length, map, Result, Ok, Err, subst, arith}
 use Rattle.std.proofs.lemmas.List.{length-append}
 use Rattle.dfx_outside.specs.Contents.{Contents}
-use Rattle.dfx_value.specs.declared.kind.Kind.{Kind}
 use Rattle.sql_grammar.specs.declared.ast.Script.{Script}
 use Rattle.sql_grammar.specs.declared.ast.TableAst.{TableAst}
 use Rattle.expr_binder.specs.Answer.{Answer}
