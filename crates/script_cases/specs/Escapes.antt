@@ -1,5 +1,6 @@
 -- Meaning: what an escaped text stands for.
-use Rattle.std.specs.Prelude.{ℕ, ◌+◌, ◌-◌, ◌*◌, Bool, ◌&&◌, ◌==◌, nat_le, List, [], ◌∷◌, Option, Some, None, option_map, if◌then◌else◌}
+use Rattle.std.specs.Prelude.{ℕ, ◌+◌, ◌-◌, ◌*◌, Bool, ◌&&◌, ◌==◌, nat_le, List, [], ◌∷◌}
+use Rattle.std.specs.Prelude.{Option, Some, None, option_map, if◌then◌else◌}
 use Rattle.script_cases.specs.declared.escapes.Seen.{Seen}
 use Rattle.script_cases.specs.declared.escapes.Seen.TheVariants as seen
 use Rattle.script_cases.specs.declared.escapes.Gives.{Gives}
@@ -10,7 +11,10 @@ between least most b = nat_le least b && nat_le b most
 
 -- 0 to 9, a to f and A to F
 abbrev pub digit_of : ℕ → Option ℕ
-digit_of b = if between 48 57 b then Some (b - 48) else (if between 97 102 b then Some (b - 97 + 10) else (if between 65 70 b then Some (b - 65 + 10) else None))
+digit_of b =
+    if between 48 57 b then Some (b - 48)
+    else (if between 97 102 b then Some (b - 97 + 10)
+    else (if between 65 70 b then Some (b - 65 + 10) else None))
 
 abbrev pub byte_of_digits : Option ℕ → Option ℕ → Option ℕ
 byte_of_digits (Some high) (Some low) = Some (high * 16 + low)
@@ -18,7 +22,11 @@ byte_of_digits _ _ = None
 
 -- n, r, t and the backslash
 abbrev pub byte_of_letter : ℕ → Option ℕ
-byte_of_letter b = if b == 110 then Some 10 else (if b == 114 then Some 13 else (if b == 116 then Some 9 else (if b == 92 then Some 92 else None)))
+byte_of_letter b =
+    if b == 110 then Some 10
+    else (if b == 114 then Some 13
+    else (if b == 116 then Some 9
+    else (if b == 92 then Some 92 else None)))
 
 abbrev pub given_byte : Option ℕ → Option Gives
 given_byte None = None
@@ -26,7 +34,9 @@ given_byte (Some b) = Some (gives.Byte b)
 
 -- what is seen behind a backslash: x, a line feed, which stands for nothing, or a letter
 abbrev pub given_letter : ℕ → Option Gives
-given_letter b = if b == 120 then Some (gives.Seen seen.Hex) else (if b == 10 then Some (gives.Seen seen.Plain) else given_byte (byte_of_letter b))
+given_letter b =
+    if b == 120 then Some (gives.Seen seen.Hex)
+    else (if b == 10 then Some (gives.Seen seen.Plain) else given_byte (byte_of_letter b))
 
 -- what a byte gives behind what was seen of an escape
 abbrev pub given : Seen → ℕ → Option Gives

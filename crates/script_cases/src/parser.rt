@@ -276,7 +276,8 @@ fn step_of(alloc: Global, group: &Group) -> Step
 
 /// The steps of groups: one of each, in order.
 fn read_groups(alloc: Global, groups: &[Group]) -> Result<Vec<Step>, AllocError>
-    ensures { IfOk result (λ steps. map (λ step. step.line) steps.items ≡ map (λ group. group.first.line) groups.now) }
+    ensures { IfOk result (λ steps. map (λ step. step.line) steps.items
+        ≡ map (λ group. group.first.line) groups.now) }
 {
     let mut steps = Vec::new(alloc);
     for group in groups {

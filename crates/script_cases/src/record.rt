@@ -42,7 +42,8 @@ pub struct Record {
     pub expected: Expected,
 }
 
-/// The numbers of the calls that fail, counted from 1: reads of each file but the script, and writes of standard output.
+/// The numbers of the calls that fail, counted from 1: reads of each file but the script, and writes of
+/// standard output.
 #[derive(Debug, Drop)]
 pub struct Failing {
     pub reads: Vec<u32>,

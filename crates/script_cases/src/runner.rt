@@ -146,7 +146,8 @@ fn put_common<'a>(commons: &mut Vec<&'a File>, file: &'a File) -> Result<(), All
 
 /// Runs the records among these steps. Each of them counts once, and so does what means nothing.
 fn run_steps(alloc: Global, steps: &[Step], report: &mut Report) -> Result<(), AllocError>
-    ensures { OnOk result (length report.new.outcomes.items ≡ length report.old.outcomes.items + count_by is_counted steps.now) }
+    ensures { OnOk result (length report.new.outcomes.items
+        ≡ length report.old.outcomes.items + count_by is_counted steps.now) }
 {
     let mut commons = Vec::new(alloc);
     for step in steps {
