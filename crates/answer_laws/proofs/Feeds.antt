@@ -1,6 +1,6 @@
 -- From a run to lists: what trees would give, and what the channels of an exchange hold in whole.
 use Rattle.std.specs.List.{sum_by}
-use Rattle.std.proofs.Common.{ℕ, zero, suc, ◌+◌, ◌<◌, ◌≡◌, refl, sym, ap, ◌∙◌, subst, cond, List, [], ◌∷◌, ◌++◌, length, get_or, map, Bool, true, Some, Ok, arith, zero-add, add-zero}
+use Rattle.std.proofs.Common.{ℕ, zero, suc, ◌+◌, ◌<◌, ◌≡◌, refl, sym, ap, ◌∙◌, subst, cond, List, [], ◌∷◌, ◌++◌, length, get_or, map, Bool, true, Some, arith, zero-add, add-zero, append_assoc}
 use Rattle.std.proofs.lemmas.List.{length-append, append-nil}
 use Rattle.std.proofs.lemmas.List.Sums.{sum_by-append}
 use Rattle.run_journal.specs.declared.entry.Entry.{Entry}
@@ -16,6 +16,7 @@ use Rattle.task_trees.specs.Linked.{IsLinked, whole, waiting, IsFlow}
 use Rattle.task_trees.specs.Tasks.{Split, Task}
 use Rattle.task_trees.specs.Runs.{State, the_task, IsReached}
 use Rattle.task_trees.proofs.Wholes.{whole_of}
+use Rattle.task_trees.proofs.Fronts.{of_rows-append}
 use Rattle.whole_contents.specs.Bags.{sum_below}
 use Rattle.whole_contents.specs.Subsequences.{IsSubsequence}
 use Rattle.whole_contents.specs.Senders.{Deal, SendsOnly}
@@ -38,19 +39,11 @@ use Rattle.answer_laws.specs.Fed.{IsFed, AllFed}
 
 -- ------------------------------------------------------------ a tree gives what its form can
 
-rows-append : (xs ys : List Cells) → of_rows (xs ++ ys) ≡ of_rows xs ++ of_rows ys
-rows-append [] ys = refl
-rows-append (x ∷ xs) ys = ap (λ zs. Ok x ∷ zs) (rows-append xs ys)
-
-append-assoc : {A : Type 0} (xs ys zs : List A) → (xs ++ ys) ++ zs ≡ xs ++ (ys ++ zs)
-append-assoc [] ys zs = refl
-append-assoc (x ∷ xs) ys zs = ap (λ us. x ∷ us) (append-assoc xs ys zs)
-
 -- what was taken is read of what was given
 reads_of : (rows waits gave : List Cells) (over : Bool) (items : List Item) → gave ≡ rows ++ waits → IsFront (of_rows gave) items
     → (over ≡ true → of_rows rows ≡ items) → Reads rows over items
 reads_of rows waits gave over items e f all = record {
-  front = (of_rows waits ++ f.0, sym (append-assoc (of_rows rows) (of_rows waits) f.0) ∙ ap (λ xs. xs ++ f.0) (sym (rows-append rows waits) ∙ ap of_rows (sym e)) ∙ f.1);
+  front = (of_rows waits ++ f.0, sym (append_assoc (of_rows rows) (of_rows waits) f.0) ∙ ap (λ xs. xs ++ f.0) (sym (of_rows-append rows waits) ∙ ap of_rows (sym e)) ∙ f.1);
   all = all;
 }
 
@@ -172,7 +165,7 @@ module _ (f : Doing) (are : AreOperators f) (hashing : IsHashing f) (p : Plan) (
   fed_from before [] l e = tt
   fed_from before (t ∷ ts) l e = (
     fed_at before ts t e (let k : t.stage ≡ length before = (stage_is f are p before ts t e).0 in omega arith),
-    fed_from (before ++ t ∷ []) ts (let k = length-append before (t ∷ []) in omega arith) (e ∙ sym (append-assoc before (t ∷ []) ts)),
+    fed_from (before ++ t ∷ []) ts (let k = length-append before (t ∷ []) in omega arith) (e ∙ sym (append_assoc before (t ∷ []) ts)),
   )
 
   pub fed : AllFed f full (tops p 1 0)

@@ -14,7 +14,10 @@ distinct_node tables (Logical-F.Filter input test) = input.1
 distinct_node tables (Logical-F.Project input items) = input.1
 distinct_node tables (Logical-F.Join kind left right keys rest) = left.1 && right.1
 distinct_node tables (Logical-F.Aggregate input keys calls) = input.1
-distinct_node tables (Logical-F.Distinct input) = input.1 && (nat_lt 0 (length (whole tables input.0).kinds) && all_are (whole tables input.0).kinds (rows (whole tables input.0).items))
+distinct_node tables (Logical-F.Distinct input) =
+    input.1
+    && (nat_lt 0 (length (whole tables input.0).kinds)
+    && all_are (whole tables input.0).kinds (rows (whole tables input.0).items))
 distinct_node tables (Logical-F.UnionAll inputs) = all_true (map (λ (q : Logical × Bool). q.1) inputs)
 
 unfoldable pub has_distincts : Tables → Logical → Bool

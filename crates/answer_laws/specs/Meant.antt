@@ -21,7 +21,8 @@ pub record Grouping : Type 0 where
   pub calls : List AggCall
   pub kinds : List Kind
 
--- what a plan means: its items and the kinds of their columns. Where it gives states of groups, these are the items that are grouped
+-- what a plan means: its items and the kinds of their columns. Where it gives states of groups, these are the items
+-- that are grouped
 pub record Meaning : Type 0 where
   pub kinds : List Kind
   pub groups : Option Grouping
@@ -36,7 +37,8 @@ grouping keys calls m = record { columns = keys; calls = calls; kinds = m.kinds 
 -- the second phase
 abbrev pub answered : Option Grouping → List Item → Meaning
 answered None items = meaning [] []
-answered (Some g) items = meaning (key_kinds g.kinds g.columns ++ call_kinds g.kinds g.calls) (aggregated g.columns g.calls g.kinds items)
+answered (Some g) items =
+    meaning (key_kinds g.kinds g.columns ++ call_kinds g.kinds g.calls) (aggregated g.columns g.calls g.kinds items)
 
 abbrev pub first_kinds : List Meaning → List Kind
 first_kinds [] = []
@@ -46,16 +48,20 @@ first_kinds (m ∷ ms) = m.kinds
 abbrev pub meant_node : Tables → Plan-F Meaning → Meaning
 meant_node tables (Plan-F.Scan table kinds files partitions) = meaning kinds (scan tables table)
 meant_node tables (Plan-F.Filter input test) = meaning input.kinds (filter_items test input.items)
-meant_node tables (Plan-F.Project input items) = meaning (item_kinds input.kinds items) (project_items items input.items)
-meant_node tables (Plan-F.PartialGroup input keys calls) = record { kinds = input.kinds; groups = Some (grouping keys calls input); items = input.items }
+meant_node tables (Plan-F.Project input items) =
+    meaning (item_kinds input.kinds items) (project_items items input.items)
+meant_node tables (Plan-F.PartialGroup input keys calls) =
+    record { kinds = input.kinds; groups = Some (grouping keys calls input); items = input.items }
 meant_node tables (Plan-F.FinalGroup input keys calls) = answered input.groups input.items
 meant_node tables (Plan-F.HashJoin kind left right keys rest) =
-    meaning (left.kinds ++ right.kinds) (joined kind (length left.kinds) (length right.kinds) keys rest left.items right.items)
+    meaning (left.kinds ++ right.kinds)
+    (joined kind (length left.kinds) (length right.kinds) keys rest left.items right.items)
 meant_node tables (Plan-F.Sort input keys) = input
 meant_node tables (Plan-F.Merge input keys) = input
 meant_node tables (Plan-F.Coalesce input) = input
 meant_node tables (Plan-F.Repartition input to) = input
-meant_node tables (Plan-F.UnionAll inputs) = meaning (first_kinds inputs) (concat (map (λ (m : Meaning). m.items) inputs))
+meant_node tables (Plan-F.UnionAll inputs) =
+    meaning (first_kinds inputs) (concat (map (λ (m : Meaning). m.items) inputs))
 meant_node tables (Plan-F.Limit input skip fetch) = input
 
 unfoldable pub meaning_of : Tables → Plan → Meaning
@@ -74,7 +80,9 @@ pub record Phases : Type 0 where
 -- the partitions together are the items that are meant; or they are first phases of segments that together are those
 abbrev pub TellsBy : Phases → Option Grouping → List Item → List (List Item) → Type 0
 TellsBy phases None items parts = Alike (concat parts) items
-TellsBy phases (Some g) items parts = (segments : List (List Item)) × Alike (concat segments) items × SameBag (concat parts) (flat_map (phases.first g) segments)
+TellsBy phases (Some g) items parts =
+    (segments : List (List Item)) × Alike (concat segments) items
+    × SameBag (concat parts) (flat_map (phases.first g) segments)
 
 abbrev pub Tells : Phases → Meaning → List (List Item) → Type 0
 Tells phases m parts = TellsBy phases m.groups m.items parts
@@ -114,19 +122,24 @@ same_calls _ _ = false
 -- a second phase goes by the first columns, with the calls of the first phase, and what is grouped is of its kinds
 abbrev pub finishes : Option Grouping → List ℕ → List AggCall → List Cells → Bool
 finishes None keys calls all = false
-finishes (Some g) keys calls all = same_numbers keys (numbers (length g.columns)) && (same_calls calls g.calls && all_are g.kinds all)
+finishes (Some g) keys calls all =
+    same_numbers keys (numbers (length g.columns)) && (same_calls calls g.calls && all_are g.kinds all)
 
--- scans of all files of a table, in some partitions; states of groups under second phases alone; no limit; and groups and joins whose
--- inputs are distributed as this test of nodes says
+-- scans of all files of a table, in some partitions; states of groups under second phases alone; no limit; and groups
+-- and joins whose inputs are distributed as this test of nodes says
 abbrev pub told_node : Tables → (Plan-F Plan → Bool) → Plan-F (Plan × Bool) → Bool
-told_node tables spread (Plan-F.Scan table kinds files partitions) = nat_lt 0 partitions && (files == length (files_of tables table))
+told_node tables spread (Plan-F.Scan table kinds files partitions) =
+    nat_lt 0 partitions && (files == length (files_of tables table))
 told_node tables spread (Plan-F.Filter input test) = input.1 && is_whole (meaning_of tables input.0)
 told_node tables spread (Plan-F.Project input items) = input.1 && is_whole (meaning_of tables input.0)
 told_node tables spread (Plan-F.PartialGroup input keys calls) = input.1 && is_whole (meaning_of tables input.0)
 told_node tables spread (Plan-F.FinalGroup input keys calls) =
-    input.1 && (finishes (meaning_of tables input.0).groups keys calls (rows (meant tables input.0)) && spread (Plan-F.FinalGroup input.0 keys calls))
+    input.1
+    && (finishes (meaning_of tables input.0).groups keys calls (rows (meant tables input.0))
+    && spread (Plan-F.FinalGroup input.0 keys calls))
 told_node tables spread (Plan-F.HashJoin kind left right keys rest) =
-    (left.1 && is_whole (meaning_of tables left.0)) && ((right.1 && is_whole (meaning_of tables right.0)) && spread (Plan-F.HashJoin kind left.0 right.0 keys rest))
+    (left.1 && is_whole (meaning_of tables left.0))
+    && ((right.1 && is_whole (meaning_of tables right.0)) && spread (Plan-F.HashJoin kind left.0 right.0 keys rest))
 told_node tables spread (Plan-F.Sort input keys) = input.1
 told_node tables spread (Plan-F.Merge input keys) = input.1
 told_node tables spread (Plan-F.Coalesce input) = input.1

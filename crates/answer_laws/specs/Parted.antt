@@ -24,11 +24,13 @@ part parts i = slice_index_or parts i []
 pub record LawsOfParts (phases : Phases) : Type 0 where
   -- two_phases_law.grouped, with `Alike` for the segments
   pub grouped : (g : Grouping) (segments : List (List Item)) (input : List Item) (n : ℕ) (parts : ℕ → List Item)
-      → AllPass (are_of g.kinds) (rows input) → Alike (concat segments) input → SameBag (together n parts) (flat_map (phases.first g) segments)
+      → AllPass (are_of g.kinds) (rows input) → Alike (concat segments) input
+      → SameBag (together n parts) (flat_map (phases.first g) segments)
       → AreApart (numbers (length g.columns)) n parts
       → Alike (together n (λ i. phases.second g (parts i))) (aggregated g.columns g.calls g.kinds input)
   -- join_law.parts, by join_law.one
-  pub of_joins : (kind : JoinKind) (lw rw : ℕ) (keys : List (ℕ × ℕ)) (rest : Option Expr) (n : ℕ) (lefts rights : ℕ → List Item) (ls rs : List Item)
+  pub of_joins : (kind : JoinKind) (lw rw : ℕ) (keys : List (ℕ × ℕ)) (rest : Option Expr) (n : ℕ)
+      (lefts rights : ℕ → List Item) (ls rs : List Item)
       → Alike (together n lefts) ls → Alike (together n rights) rs → AreMatched keys n lefts rights
       → Alike (together n (λ i. joined kind lw rw keys rest (lefts i) (rights i))) (joined kind lw rw keys rest ls rs)
   -- two_phases_law.no_calls
@@ -37,7 +39,9 @@ pub record LawsOfParts (phases : Phases) : Type 0 where
 
 -- what stands of the inputs of groups and joins gathers and matches them, where a test of nodes passes
 pub record Delivers (spread : Plan-F Plan → Bool) (stands : Plan → List (List Item) → Type 0) : Type 0 where
-  pub gathered : (q : Plan) (keys : List ℕ) (calls : List AggCall) (xs : List (List Item)) → spread (Plan-F.FinalGroup q keys calls) ≡ true → stands q xs
+  pub gathered : (q : Plan) (keys : List ℕ) (calls : List AggCall) (xs : List (List Item))
+      → spread (Plan-F.FinalGroup q keys calls) ≡ true → stands q xs
       → AreApart keys (length xs) (part xs)
-  pub matched : (kind : JoinKind) (p q : Plan) (keys : List (ℕ × ℕ)) (rest : Option Expr) (xs ys : List (List Item)) → spread (Plan-F.HashJoin kind p q keys rest) ≡ true
+  pub matched : (kind : JoinKind) (p q : Plan) (keys : List (ℕ × ℕ)) (rest : Option Expr) (xs ys : List (List Item))
+      → spread (Plan-F.HashJoin kind p q keys rest) ≡ true
       → stands p xs → stands q ys → (length xs ≡ length ys) × AreMatched keys (length xs) (part xs) (part ys)

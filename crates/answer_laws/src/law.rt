@@ -50,8 +50,8 @@ pub fn feeds_law()
         → of_rows (the_task s.tasks 0).output ≡ whole full (tree_in s 0) }
 {}
 
-/// A plan that is the query's plain plan, but for sorts and exchanges, means what the query's body means (`built`). What
-/// rows are alike to has no fault (`clean`).
+/// A plan that is the query's plain plan, but for sorts and exchanges, means what the query's body means (`built`).
+/// What rows are alike to has no fault (`clean`).
 pub fn meant_law()
     ensures built { (tables : Tables) (phases : Phases) → LawsOfParts phases
         → (files : List ℕ) (n : ℕ) (q : AQuery) (p : Plan)

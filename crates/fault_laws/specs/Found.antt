@@ -20,7 +20,8 @@ IsEvaluation f cause = (e : EvalFault) × (f ≡ Evaluation e) × (cause ≡ why
 
 -- the cause is a fault that passes: of an evaluation by an operator, or in a file of a source with which it passes too
 abbrev pub Found : (ItemFault → Bool) → (ℕ → ItemFault → Bool) → Cause → Type 0
-Found met named cause = (f : ItemFault) × (met f ≡ true) × (IsEvaluation f cause ⊎ ((s : ℕ) × (cause ≡ cause_at s f) × (named s f ≡ true)))
+Found met named cause =
+    (f : ItemFault) × (met f ≡ true) × (IsEvaluation f cause ⊎ ((s : ℕ) × (cause ≡ cause_at s f) × (named s f ≡ true)))
 
 -- ------------------------------------------------------------ one of a list
 

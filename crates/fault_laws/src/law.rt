@@ -38,48 +38,61 @@ ghost use Rattle.fault_laws.specs.Met.{met_of};
 ghost use Rattle.fault_laws.specs.Trees.{Meets, LeavesPass};
 ghost use Rattle.fault_laws.specs.Found.{Found, IsIn, Ends, is_of_fault, IsTold, IsToldTop};
 
-/// Where a plan's exchanges are fed and all faults that it meets pass a test, every fault that its partitions would give does (`pass`), so it is
-/// one of those (`one`). A finished plan of a query meets what the query's body does (`built`).
+/// Where a plan's exchanges are fed and all faults that it meets pass a test, every fault that its partitions would
+/// give does (`pass`), so it is one of those (`one`). A finished plan of a query meets what the query's body does
+/// (`built`).
 pub fn met_law()
-    ensures pass { (h : Hashing) (f : Doing) (tables : Tables) (n : ℕ) → IsEngineBy h f tables n the_phases → (full : ℕ → ℕ → List Item) (test : ItemFault → Bool) (p : Plan)
+    ensures pass { (h : Hashing) (f : Doing) (tables : Tables) (n : ℕ) → IsEngineBy h f tables n the_phases
+        → (full : ℕ → ℕ → List Item) (test : ItemFault → Bool) (p : Plan)
         → IsTold tables n p → AllPass test (met_of tables p) → (k s : ℕ) → AllFed f full (tops p k s)
-        → (parts : List (List Item)) → AllGive full (partitions_of f p k s) parts → AllPass test (faults (concat parts)) }
-    ensures one { (h : Hashing) (f : Doing) (tables : Tables) (n : ℕ) → IsEngineBy h f tables n the_phases → (full : ℕ → ℕ → List Item) (p : Plan)
+        → (parts : List (List Item)) → AllGive full (partitions_of f p k s) parts
+        → AllPass test (faults (concat parts)) }
+    ensures one { (h : Hashing) (f : Doing) (tables : Tables) (n : ℕ) → IsEngineBy h f tables n the_phases
+        → (full : ℕ → ℕ → List Item) (p : Plan)
         → IsTold tables n p → (k s : ℕ) → AllFed f full (tops p k s)
         → (parts : List (List Item)) → AllGive full (partitions_of f p k s) parts
         → (fault : ItemFault) → IsIn fault (faults (concat parts)) → IsIn fault (met_of tables p) }
     ensures built { (tables : Tables) (files : List ℕ) (n : ℕ) (q : AQuery) (p : Plan)
-        → has_distincts tables q.body ≡ true → erased p ≡ erased (build q files n) → met_of tables p ≡ all_faults tables q.body }
+        → has_distincts tables q.body ≡ true → erased p ≡ erased (build q files n)
+        → met_of tables p ≡ all_faults tables q.body }
 {}
 
-/// In each state that a plan's run reaches, every tree of a task, and every tree in one, would give only faults that pass, where all that the plan
-/// meets do (`trees`). A tree whose need is that the run fails has met such a fault: an operator that of an evaluation, in what it has determined,
-/// or a scan one in a file that it still reads, whose source is named (`fails`). So the cause of an entry of failure, unless a device, memory or a
-/// reservation failed, is a fault that the plan meets (`ends`), and that the query of a finished plan does (`meant`). Where the faults of the tables'
-/// files name them, a source in a cause is the file that the fault names (`named`).
+/// In each state that a plan's run reaches, every tree of a task, and every tree in one, would give only faults that
+/// pass, where all that the plan meets do (`trees`). A tree whose need is that the run fails has met such a fault: an
+/// operator that of an evaluation, in what it has determined, or a scan one in a file that it still reads, whose
+/// source is named (`fails`). So the cause of an entry of failure, unless a device, memory or a reservation failed,
+/// is a fault that the plan meets (`ends`), and that the query of a finished plan does (`meant`). Where the faults of
+/// the tables' files name them, a source in a cause is the file that the fault names (`named`).
 pub fn cause_law()
-    ensures trees { (h : Hashing) (f : Doing) (tables : Tables) (n : ℕ) → IsEngineBy h f tables n the_phases → (test : ItemFault → Bool)
+    ensures trees { (h : Hashing) (f : Doing) (tables : Tables) (n : ℕ) → IsEngineBy h f tables n the_phases
+        → (test : ItemFault → Bool)
         → (p : Plan) → HasChannels p → IsToldTop tables n p → AllPass test (met_of tables p)
         → (size limit : ℕ) (entries : List Entry) (s : State) (full : ℕ → ℕ → List Item)
         → IsReached (shape p) size limit (start_of f p limit) entries s → AreFull (shape p) s (deal_of f p) full
         → (u : ℕ) → Meets test full (form (tree_in s u)) }
-    ensures fails { (met : ItemFault → Bool) (named : ℕ → ItemFault → Bool) (size : ℕ) (past : Past (List Cells)) (full : ℕ → ℕ → List Item) (t : Tree)
+    ensures fails { (met : ItemFault → Bool) (named : ℕ → ItemFault → Bool) (size : ℕ) (past : Past (List Cells))
+        (full : ℕ → ℕ → List Item) (t : Tree)
         → IsLinked size past t → IsFlow past full t → Meets met full (form t) → LeavesPass named t
-        → (cause : Cause) (after : Reply (List Cells) → Tree) → poll size t ≡ Asks (Fail cause) after → Found met named cause }
+        → (cause : Cause) (after : Reply (List Cells) → Tree) → poll size t ≡ Asks (Fail cause) after
+        → Found met named cause }
     ensures ends { (h : Hashing) (f : Doing) (tables : Tables) (n : ℕ) → IsEngineBy h f tables n the_phases
         → (p : Plan) → HasChannels p → IsToldTop tables n p
         → (size limit steps : ℕ) (entries : List Entry) (s next : State) (e : Entry) (cause : Cause)
-        → state_replay (shape p) size steps (Some (start_of f p limit)) entries ≡ Some s → state_step (shape p) size steps s e ≡ Some next
+        → state_replay (shape p) size steps (Some (start_of f p limit)) entries ≡ Some s
+        → state_step (shape p) size steps s e ≡ Some next
         → e.kind ≡ Failed cause → is_of_fault cause ≡ true → Ends (met_of tables p) (files_of f p 0) cause }
     ensures meant { (h : Hashing) (f : Doing) (tables : Tables) (n : ℕ) → IsEngineBy h f tables n the_phases
-        → (q : AQuery) → has_distincts tables q.body ≡ true → (files : List ℕ) → is_known tables files q.body ≡ true → 0 < n
+        → (q : AQuery) → has_distincts tables q.body ≡ true → (files : List ℕ) → is_known tables files q.body ≡ true
+        → 0 < n
         → (p : Plan) → IsFinished (build q files n) q.order n p → everywhere needs_in_range p ≡ true
         → (size limit steps : ℕ) (entries : List Entry) (s next : State) (e : Entry) (cause : Cause)
         → state_replay (shape p) size steps (Some (start_of f p limit)) entries ≡ Some s
         → state_step (shape p) size steps s e ≡ Some next → e.kind ≡ Failed cause → is_of_fault cause ≡ true
         → Ends (all_faults tables q.body) (files_of f p 0) cause }
-    ensures named { (h : Hashing) (f : Doing) (tables : Tables) (n : ℕ) → IsEngineBy h f tables n the_phases → FaultsAreNamed tables
-        → (q : AQuery) → has_distincts tables q.body ≡ true → (files : List ℕ) → is_known tables files q.body ≡ true → 0 < n
+    ensures named { (h : Hashing) (f : Doing) (tables : Tables) (n : ℕ) → IsEngineBy h f tables n the_phases
+        → FaultsAreNamed tables
+        → (q : AQuery) → has_distincts tables q.body ≡ true → (files : List ℕ) → is_known tables files q.body ≡ true
+        → 0 < n
         → (p : Plan) → IsFinished (build q files n) q.order n p → everywhere needs_in_range p ≡ true
         → (size limit steps : ℕ) (entries : List Entry) (s next : State) (e : Entry) (cause : Cause)
         → state_replay (shape p) size steps (Some (start_of f p limit)) entries ≡ Some s

@@ -1,4 +1,5 @@
--- Meaning: bodies of queries over tables of so many files, with rows of the scans' widths, and of their kinds where they are grouped.
+-- Meaning: bodies of queries over tables of so many files, with rows of the scans' widths, and of their kinds where
+-- an aggregate groups them.
 use Rattle.std.specs.Prelude.{ℕ, ◌==◌, Bool, ◌&&◌, List, length, map, slice_index_or}
 use Rattle.dfx_value.specs.KindedRows.{all_are}
 use Rattle.physical_plan.specs.Planned.{all_true}
@@ -14,9 +15,11 @@ use Rattle.finished_plans.specs.Sound.{are_wide}
 abbrev pub is_kinded : Part → Bool
 is_kinded p = all_are p.kinds (rows p.items)
 
--- scans of tables of so many files, whose rows have the scan's columns; and what is grouped is of its kinds
+-- scans of tables of so many files, whose rows have the scan's columns; and what an aggregate groups is of its kinds
 abbrev pub known_node : Tables → List ℕ → Logical-F (Logical × Bool) → Bool
-known_node tables files (Logical-F.Scan table kinds) = (slice_index_or files table 0 == length (files_of tables table)) && are_wide (length kinds) (rows (concat (files_of tables table)))
+known_node tables files (Logical-F.Scan table kinds) =
+    (slice_index_or files table 0 == length (files_of tables table))
+    && are_wide (length kinds) (rows (concat (files_of tables table)))
 known_node tables files (Logical-F.Filter input test) = input.1
 known_node tables files (Logical-F.Project input items) = input.1
 known_node tables files (Logical-F.Join kind left right keys rest) = left.1 && right.1

@@ -35,12 +35,14 @@ ghost use Rattle.finished_plans.specs.Engine.{IsEngineBy};
 
 /// A finished plan, for at least one partition, has channels in each exchange (`channels`), and one partition at its
 /// root by its tasks too (`single`): where the needs are met, a plan has as many partitions as it declares (`parts`).
-/// Over tables that the query's body fits, a finished plan of a query without a limit is sound (`sound`), and else it is
-/// that limit of a sound plan of one partition that declares the query's order (`limited`).
+/// Over tables that the query's body fits, a finished plan of a query without a limit is sound (`sound`), and else it
+/// is that limit of a sound plan of one partition that declares the query's order (`limited`).
 pub fn finished_law()
-    ensures channels { (plain p : APlan) (order : List Key) (n : ℕ) → 0 < n → IsFinished plain order n p → HasChannels p }
+    ensures channels { (plain p : APlan) (order : List Key) (n : ℕ) → 0 < n → IsFinished plain order n p
+        → HasChannels p }
     ensures parts { (n : ℕ) (p : APlan) → everywhere (spread_needs n) p ≡ true → (counts_of p).parts ≡ partitions p }
-    ensures single { (plain p : APlan) (order : List Key) (n : ℕ) → IsFinished plain order n p → (counts_of p).parts ≡ 1 }
+    ensures single { (plain p : APlan) (order : List Key) (n : ℕ) → IsFinished plain order n p
+        → (counts_of p).parts ≡ 1 }
     ensures sound { (phases : Phases) → LawsOfParts phases → (tables : Tables) (q : AQuery)
         → has_distincts tables q.body ≡ true → (files : List ℕ) → is_known tables files q.body ≡ true → (n : ℕ) → 0 < n
         → is_some q.limit || nat_lt 0 q.offset ≡ false
@@ -66,26 +68,33 @@ pub fn declared_law()
         → is_told tables (on_properties tables n) p ≡ true }
 {}
 
-/// Where the exchanges of a sound plan are fed, what it declares stands of what its partitions would give (`stand`), and
-/// that tells what the plan means (`tells`). So where the root of such a plan's run has finished, its output is what the
-/// plan means (`alike`).
+/// Where the exchanges of a sound plan are fed, what it declares stands of what its partitions would give (`stand`),
+/// and that tells what the plan means (`tells`). So where the root of such a plan's run has finished, its output has
+/// the rows of what the plan means, in some order (`alike`).
 ///
 /// Where the root of a finished plan's run has finished, its output is an answer that the query allows (`allowed`).
 pub fn planned_answer_law()
-    ensures stand { (h : Hashing) (f : Doing) (tables : Tables) (n : ℕ) (phases : Phases) → IsEngineBy h f tables n phases
+    ensures stand { (h : Hashing) (f : Doing) (tables : Tables) (n : ℕ) (phases : Phases)
+        → IsEngineBy h f tables n phases
         → (full : ℕ → ℕ → List Item) (p : APlan) → is_sound tables n p ≡ true
-        → (k s : ℕ) → AllFed f full (tops p k s) → (parts : List (List Item)) → AllGive full (partitions_of f p k s) parts
+        → (k s : ℕ) → AllFed f full (tops p k s) → (parts : List (List Item))
+        → AllGive full (partitions_of f p k s) parts
         → Stands h (declared_of p) (map rows parts) }
-    ensures tells { (h : Hashing) (f : Doing) (tables : Tables) (n : ℕ) (phases : Phases) → IsEngineBy h f tables n phases
+    ensures tells { (h : Hashing) (f : Doing) (tables : Tables) (n : ℕ) (phases : Phases)
+        → IsEngineBy h f tables n phases
         → (full : ℕ → ℕ → List Item) (p : APlan) → is_sound tables n p ≡ true
-        → (k s : ℕ) → AllFed f full (tops p k s) → (parts : List (List Item)) → AllGive full (partitions_of f p k s) parts
+        → (k s : ℕ) → AllFed f full (tops p k s) → (parts : List (List Item))
+        → AllGive full (partitions_of f p k s) parts
         → Tells phases (meaning_of tables p) parts }
-    ensures alike { (h : Hashing) (f : Doing) (tables : Tables) (n : ℕ) (phases : Phases) → IsEngineBy h f tables n phases
+    ensures alike { (h : Hashing) (f : Doing) (tables : Tables) (n : ℕ) (phases : Phases)
+        → IsEngineBy h f tables n phases
         → (p : APlan) → HasChannels p → (counts_of p).parts ≡ 1 → is_sound tables n p ≡ true
         → is_whole (meaning_of tables p) ≡ true
         → (s : State) → IsFinishedRun f p s → Alike (of_rows (the_task s.tasks 0).output) (meant tables p) }
-    ensures allowed { (h : Hashing) (f : Doing) (tables : Tables) (n : ℕ) (phases : Phases) → IsEngineBy h f tables n phases
-        → (q : AQuery) → has_distincts tables q.body ≡ true → (files : List ℕ) → is_known tables files q.body ≡ true → 0 < n
+    ensures allowed { (h : Hashing) (f : Doing) (tables : Tables) (n : ℕ) (phases : Phases)
+        → IsEngineBy h f tables n phases
+        → (q : AQuery) → has_distincts tables q.body ≡ true → (files : List ℕ) → is_known tables files q.body ≡ true
+        → 0 < n
         → (p : APlan) → IsFinished (build q files n) q.order n p → everywhere needs_in_range p ≡ true
         → (s : State) → IsFinishedRun f p s → Allowed q tables (the_task s.tasks 0).output }
 {}

@@ -37,7 +37,7 @@ use Rattle.good_states.proofs.Frames.{good_frame, held_frame, told_frame}
 pub good : (h : Hashing) (f : Doing) (tables : Tables) (n : ℕ) (phases : Phases) → IsEngineBy h f tables n phases
     → (q : Query) → has_distincts tables q.body ≡ true → (files : List ℕ) → is_known tables files q.body ≡ true
     → 0 < n → (p : Plan) → IsFinished (build q files n) q.order n p → everywhere needs_in_range p ≡ true
-    → (size limit : ℕ) (entries : List Entry) (s : State) → IsReached (shape p) size limit (start_of f p limit) entries s → Good h f tables phases p s
+    → (size limit : ℕ) (entries : List Entry) (s : State) → IsReached (shape p) size limit (start_of f p limit) entries s → Good size h f tables phases p s
 good h f tables n phases engine q distincts files known more p plan ranges size limit entries s reached = record {
   frame = good_frame p size limit start s entries reached;
   held = held_frame p size limit start s entries reached;
@@ -55,7 +55,7 @@ good h f tables n phases engine q distincts files known more p plan ranges size 
     wholes : (full : ℕ → ℕ → List Item) × AreFull (shape p) s (deal_of f p) full
     wholes = exist (shape p) (is_shape p) size limit start s entries (is_start f engine.operators p size limit) reached (deal_of f p)
 
-    nodes : (b : Bool) → is_some q.limit || nat_lt 0 q.offset ≡ b → AllByRecursion (IsGoodNode h f tables phases s) (sites_of p)
+    nodes : (b : Bool) → is_some q.limit || nat_lt 0 q.offset ≡ b → AllByRecursion (IsGoodNode size h f tables phases s) (sites_of p)
     nodes true e =
         let l = finished_plans.limited phases engine.lists tables q distincts files known n more e p plan ranges in
         limit_nodes h f tables n phases engine p wide size limit entries s wholes.0 reached wholes.1 l.0 q.offset q.limit (rolls-Limit l.0 q.offset q.limit ∙ sym l.1) l.2

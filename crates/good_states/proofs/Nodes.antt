@@ -42,12 +42,12 @@ use Rattle.finished_plans.specs.Engine.{IsEngineBy}
 use Rattle.finished_plans.proofs.Answers.{tells, stands}
 use Rattle.finished_plans.proofs.Hashes.{hashing_of}
 use Rattle.good_states.specs.Sites.{Site, Listing, site, sites_below, sites_of}
-use Rattle.good_states.specs.Good.{so_far, IsTreeOf, AreTreesOf, AreFronts, IsBegun, IsGoodNode}
+use Rattle.good_states.specs.Good.{so_far, IsTreeOf, AreTreesOf, AreBegunOf, IsBegun, IsGoodNode}
 use Rattle.good_states.proofs.Inherited.{AllFrom, Below, each, listed_rolled}
 use Rattle.good_states.proofs.There as there
 use Rattle.good_states.proofs.Fed as feeding
 use Rattle.good_states.proofs.Sound as soundness
-use Rattle.good_states.proofs.Fronts.{wholes_given, all_fronts}
+use Rattle.good_states.proofs.Fronts.{wholes_given, all_begun}
 
 -- ------------------------------------------------------------ trees of tasks
 
@@ -74,20 +74,20 @@ begins xs ys h = subst (λ zs. Begins xs (rows zs)) h.1 (go xs)
     go [] = tt
     go (u ∷ us) = (refl, go us)
 
-fronts_begin : (ts : List Tree) (xs : List (List Item)) → AreFronts ts xs → Begun (map rows xs) (map so_far ts)
-fronts_begin ts xs h = record { count = count ts xs h; rows = at ts xs h }
+fronts_begin : (size : ℕ) (ts : List Tree) (xs : List (List Item)) → AreBegunOf size ts xs → Begun (map rows xs) (map so_far ts)
+fronts_begin size ts xs h = record { count = count ts xs h; rows = at ts xs h }
   where
-    count : (ts : List Tree) (xs : List (List Item)) → AreFronts ts xs → length (map so_far ts) ≡ length (map rows xs)
+    count : (ts : List Tree) (xs : List (List Item)) → AreBegunOf size ts xs → length (map so_far ts) ≡ length (map rows xs)
     count [] [] h = refl
     count [] (x ∷ xs) h = absurd h
     count (t ∷ ts) [] h = absurd h
     count (t ∷ ts) (x ∷ xs) h = ap suc (count ts xs h.1)
 
-    at : (ts : List Tree) (xs : List (List Item)) → AreFronts ts xs → (j : ℕ) → Begins (part (map so_far ts) j) (part (map rows xs) j)
+    at : (ts : List Tree) (xs : List (List Item)) → AreBegunOf size ts xs → (j : ℕ) → Begins (part (map so_far ts) j) (part (map rows xs) j)
     at [] [] h j = tt
     at [] (x ∷ xs) h j = absurd h
     at (t ∷ ts) [] h j = absurd h
-    at (t ∷ ts) (x ∷ xs) h zero = begins (so_far t) x h.0
+    at (t ∷ ts) (x ∷ xs) h zero = begins (so_far t) x h.0.front
     at (t ∷ ts) (x ∷ xs) h (suc j) = at ts xs h.1 j
 
 -- ------------------------------------------------------------ a reached state
@@ -149,22 +149,22 @@ module _ (h : Hashing) (f : Doing) (tables : Tables) (n : ℕ) (phases : Phases)
   down (Plan-F.Limit q skip fetch) k i x = (feeding.down f full (Plan-F.Limit q skip fetch) k i x.0, there.down s f (Plan-F.Limit q skip fetch) k i x.1, soundness.down tables n (Plan-F.Limit q skip fetch) k i x.2)
 
   -- what a sound node would give stands as it declares, and tells what it means
-  begun_by : (q : Plan) (k i : ℕ) → Known q k i → (ts : List Tree) → AreTreesOf s (partitions_of f q k i) ts → IsBegun h tables phases q ts
+  begun_by : (q : Plan) (k i : ℕ) → Known q k i → (ts : List Tree) → AreTreesOf s (partitions_of f q k i) ts → IsBegun size h tables phases q ts
   begun_by q k i x ts a =
       let xs = map (whole full) ts in
       let g = wholes_given size full s linked flow (partitions_of f q k i) ts a in
       record {
         wholes = xs;
-        fronts = all_fronts size full s linked flow (partitions_of f q k i) ts a;
+        begun = all_begun size full s linked flow (partitions_of f q k i) ts a;
         stand = stands h f tables n phases engine full q x.2 k i x.0 xs g;
         tell = λ e. tells h f tables n phases engine full q x.2 k i x.0 xs g;
       }
 
   -- what trees gave meets what is declared, where they are begun
-  begun_meets : (q : Plan) (ts : List Tree) → IsBegun h tables phases q ts → Stands h (declared_of q) (map so_far ts)
-  begun_meets q ts b = begun_stands h (declared_of q) (map rows b.wholes) (map so_far ts) (fronts_begin ts b.wholes b.fronts) b.stand
+  begun_meets : (q : Plan) (ts : List Tree) → IsBegun size h tables phases q ts → Stands h (declared_of q) (map so_far ts)
+  begun_meets q ts b = begun_stands h (declared_of q) (map rows b.wholes) (map so_far ts) (fronts_begin size ts b.wholes b.begun) b.stand
 
-  good_node : (q : Plan) (k i : ℕ) → Known q k i → IsGoodNode h f tables phases s (site q k i)
+  good_node : (q : Plan) (k i : ℕ) → Known q k i → IsGoodNode size h f tables phases s (site q k i)
   good_node q k i x = record {
     there = x.1.0;
     meets = λ ts a. (begun_meets q ts (begun_by q k i x ts a)).meets;
@@ -176,14 +176,14 @@ module _ (h : Hashing) (f : Doing) (tables : Tables) (n : ℕ) (phases : Phases)
   mapped P Q h (x ∷ xs) a = (h x a.0, mapped P Q h xs a.1)
 
   -- the nodes below a node of which all is known
-  pub good_below : (q : Plan) (k i : ℕ) → Known q k i → AllByRecursion (IsGoodNode h f tables phases s) (sites_below q k i)
-  good_below q k i x = mapped (λ y. Known y.plan y.stage y.source) (IsGoodNode h f tables phases s) (λ y a. good_node y.plan y.stage y.source a) (sites_below q k i) (each Known down q k i x)
+  pub good_below : (q : Plan) (k i : ℕ) → Known q k i → AllByRecursion (IsGoodNode size h f tables phases s) (sites_below q k i)
+  good_below q k i x = mapped (λ y. Known y.plan y.stage y.source) (IsGoodNode size h f tables phases s) (λ y a. good_node y.plan y.stage y.source a) (sites_below q k i) (each Known down q k i x)
 
   fed_all : feeding.Fed f full p 1 0
   fed_all = fed f engine.operators (hashing_of h f engine.channels) p wide size limit entries s full reached wholes
 
   -- all nodes of a sound plan
-  pub sound_nodes : is_sound tables n p ≡ true → AllByRecursion (IsGoodNode h f tables phases s) (sites_of p)
+  pub sound_nodes : is_sound tables n p ≡ true → AllByRecursion (IsGoodNode size h f tables phases s) (sites_of p)
   sound_nodes e = (let x : Known p 1 0 = (fed_all, found, e) in (good_node p 1 0 x, good_below p 1 0 x))
 
   -- ---------------------------------------------------------- a limit over a sound plan
@@ -220,29 +220,29 @@ module _ (h : Hashing) (f : Doing) (tables : Tables) (n : ℕ) (phases : Phases)
   limit_gives r skip fetch k i xs g = subst (λ (grow_by : Growing). AllGive full (grow_by k i) xs) (grown f (Plan-F.Limit r skip fetch)) g
 
   -- all nodes of a limit over a sound plan
-  pub limit_nodes : (r : Plan) (skip : ℕ) (fetch : Option ℕ) → roll-Plan (Plan-F.Limit r skip fetch) ≡ p → is_sound tables n r ≡ true → AllByRecursion (IsGoodNode h f tables phases s) (sites_of p)
+  pub limit_nodes : (r : Plan) (skip : ℕ) (fetch : Option ℕ) → roll-Plan (Plan-F.Limit r skip fetch) ≡ p → is_sound tables n r ≡ true → AllByRecursion (IsGoodNode size h f tables phases s) (sites_of p)
   limit_nodes r skip fetch e sound =
       let z = Plan-F.Limit r skip fetch in
       let a : feeding.Fed f full (roll-Plan z) 1 0 = subst (λ (q : Plan). feeding.Fed f full q 1 0) (sym e) fed_all in
       let b : there.Found s f (roll-Plan z) 1 0 = subst (λ (q : Plan). there.Found s f q 1 0) (sym e) found in
       let x : Known r 1 0 = (feeding.down f full z 1 0 a, there.down s f z 1 0 b, sound) in
-      let root : (ts : List Tree) → AreTreesOf s (partitions_of f (roll-Plan z) 1 0) ts → IsBegun h tables phases (roll-Plan z) ts = λ ts t. (
+      let root : (ts : List Tree) → AreTreesOf s (partitions_of f (roll-Plan z) 1 0) ts → IsBegun size h tables phases (roll-Plan z) ts = λ ts t. (
       let xs = map (whole full) ts in
       let g = limit_gives r skip fetch 1 0 xs (wholes_given size full s linked flow (partitions_of f (roll-Plan z) 1 0) ts t) in
       let d = passed full (f.operator z 1) (partitions_of f r 1 0) xs g in
       record {
         wholes = xs;
-        fronts = all_fronts size full s linked flow (partitions_of f (roll-Plan z) 1 0) ts t;
+        begun = all_begun size full s linked flow (partitions_of f (roll-Plan z) 1 0) ts t;
         stand = plan_stands h n (Plan-F.Limit (r, map rows d.0) skip fetch) (map rows xs) (stands h f tables n phases engine full r sound 1 0 x.0 d.0 d.1, tt) tt (stretches r skip fetch d.0 xs d.2);
         tell = λ told. absurd (false≢true (sym (told_rolled tables n anyhow z) ∙ told));
       }) in
-      let top : IsGoodNode h f tables phases s (site (roll-Plan z) 1 0) = record {
+      let top : IsGoodNode size h f tables phases s (site (roll-Plan z) 1 0) = record {
         there = b.0;
         meets = λ ts t. (begun_meets (roll-Plan z) ts (root ts t)).meets;
         begun = root;
       } in
-      let below : AllByRecursion (IsGoodNode h f tables phases s) (sites_below (roll-Plan z) 1 0) = limit_below r skip fetch (good_node r 1 0 x, good_below r 1 0 x) in
-      subst (λ (q : Plan). AllByRecursion (IsGoodNode h f tables phases s) (sites_of q)) e (top, below)
+      let below : AllByRecursion (IsGoodNode size h f tables phases s) (sites_below (roll-Plan z) 1 0) = limit_below r skip fetch (good_node r 1 0 x, good_below r 1 0 x) in
+      subst (λ (q : Plan). AllByRecursion (IsGoodNode size h f tables phases s) (sites_of q)) e (top, below)
     where
-      limit_below : (r : Plan) (skip : ℕ) (fetch : Option ℕ) → AllByRecursion (IsGoodNode h f tables phases s) (site r 1 0 ∷ sites_below r 1 0) → AllByRecursion (IsGoodNode h f tables phases s) (sites_below (roll-Plan (Plan-F.Limit r skip fetch)) 1 0)
-      limit_below r skip fetch g = subst (λ (l : Listing). AllByRecursion (IsGoodNode h f tables phases s) (l 1 0)) (sym (listed_rolled (Plan-F.Limit r skip fetch))) g
+      limit_below : (r : Plan) (skip : ℕ) (fetch : Option ℕ) → AllByRecursion (IsGoodNode size h f tables phases s) (site r 1 0 ∷ sites_below r 1 0) → AllByRecursion (IsGoodNode size h f tables phases s) (sites_below (roll-Plan (Plan-F.Limit r skip fetch)) 1 0)
+      limit_below r skip fetch g = subst (λ (l : Listing). AllByRecursion (IsGoodNode size h f tables phases s) (l 1 0)) (sym (listed_rolled (Plan-F.Limit r skip fetch))) g

@@ -5,7 +5,8 @@ use Rattle.physical_plan.specs.declared.plan.Plan.TheOpen.{Plan-F}
 use Rattle.physical_plan.specs.declared.plan.Plan.TheFolds.{para-Plan}
 use Rattle.plan_tasks.specs.Trees.{stages_in, sources_in}
 
--- a node, as the plan of which it is the root; the number of the next stage that opens below it, and that of its first source
+-- a node, as the plan of which it is the root; the number of the next stage that opens below it, and that of its
+-- first source
 pub record Site : Type 0 where
   pub plan : Plan
   pub stage : ℕ
@@ -32,7 +33,8 @@ list_node (Plan-F.Filter input test) k s = listed input k s
 list_node (Plan-F.Project input items) k s = listed input k s
 list_node (Plan-F.PartialGroup input keys calls) k s = listed input k s
 list_node (Plan-F.FinalGroup input keys calls) k s = listed input k s
-list_node (Plan-F.HashJoin kind left right keys rest) k s = listed left k s ++ listed right (k + stages_in left.0) (s + sources_in left.0)
+list_node (Plan-F.HashJoin kind left right keys rest) k s =
+    listed left k s ++ listed right (k + stages_in left.0) (s + sources_in left.0)
 list_node (Plan-F.Sort input keys) k s = listed input k s
 list_node (Plan-F.Merge input keys) k s = listed input (k + 1) s
 list_node (Plan-F.Coalesce input) k s = listed input (k + 1) s

@@ -24,5 +24,5 @@ pub fn good_law()
         → (q : AQuery) → has_distincts tables q.body ≡ true → (files : List ℕ) → is_known tables files q.body ≡ true
         → 0 < n → (p : APlan) → IsFinished (build q files n) q.order n p → everywhere needs_in_range p ≡ true
         → (size limit : ℕ) (entries : List Entry) (s : State)
-        → IsReached (shape p) size limit (start_of f p limit) entries s → Good h f tables phases p s }
+        → IsReached (shape p) size limit (start_of f p limit) entries s → Good size h f tables phases p s }
 {}

@@ -31,8 +31,8 @@ ghost use Rattle.join_parts.specs.States.{Join, op_of, JoinState, at_start, acce
 /// in the partition of the hash of its keys (`placed`), and where there is one partition
 /// (`single`).
 ///
-/// The rows of each partition are those of a join's node (`rows`, `node`), and of the kinds of its
-/// columns (`kinds`).
+/// Each row of a partition is one that a join's node may give (`rows`, `node`), and of the kinds of
+/// its columns (`kinds`).
 pub fn join_law()
     ensures one { (kind : Kept) (left_width right_width : ℕ) (keys : List (ℕ × ℕ)) (rest : Option Expr)
         (ls rs : List Item)

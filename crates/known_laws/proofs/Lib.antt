@@ -1,1 +1,1 @@
-mod Known
+pub mod Known

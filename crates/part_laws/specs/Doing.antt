@@ -59,4 +59,8 @@ node_items tables amount = record {
 
 abbrev pub the_doing : Tables → (Plan-F Plan → Amount) → (List ℕ → ℕ → Cells → ℕ) → Doing
 the_doing tables amount channel =
-    record { operator = operator_of (node_items tables amount); channel = channel; items = λ table file. slice_index_or (files_of tables table) file [] }
+    record {
+      operator = operator_of (node_items tables amount);
+      channel = channel;
+      items = λ table file. slice_index_or (files_of tables table) file [];
+    }

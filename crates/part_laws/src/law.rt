@@ -12,9 +12,9 @@ ghost use Rattle.part_laws.specs.Phased.{the_phases};
 ghost use Rattle.part_laws.specs.Made.{Amount, IsMade};
 ghost use Rattle.part_laws.specs.Doing.{the_doing};
 
-/// Over partitions in which rows with the same keys lie together, the second phase gives what grouping means of items
-/// that the segments of the first phase are alike to; joins of partitions are together the join; and DISTINCT is
-/// grouping by all columns (`lists`).
+/// Over partitions in which rows with the same keys lie together, the second phase gives together the same rows,
+/// each as often, and as many faults as grouping means of items that the segments of the first phase are alike to; joins of
+/// partitions give together those of the join; and DISTINCT is grouping by all columns (`lists`).
 ///
 /// Operators of the kinds that task_trees has, with these phases, joins, sorts and merges, owe what answers ask of them
 /// (`answering`); and there are such, for all nodes of all plans (`doing`).

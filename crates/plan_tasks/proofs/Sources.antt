@@ -11,6 +11,7 @@ use Rattle.physical_plan.specs.declared.plan.Plan.TheOpen.{Plan-F}
 use Rattle.physical_plan.specs.declared.plan.Plan.TheViews.{roll-Plan}
 use Rattle.physical_plan.specs.declared.plan.Plan.TheFolds.{fold-roll-Plan, para-roll-Plan, map-Plan, ind-Plan}
 use Rattle.physical_plan.specs.Layout.{numbers, numbers_from}
+use Rattle.physical_plan.proofs.Everywhere.{and_parts}
 use Rattle.task_trees.specs.Operators.{Op}
 use Rattle.task_trees.specs.Trees.{File, Nothing}
 use Rattle.logical_plan.specs.Items.{Item}
@@ -144,10 +145,6 @@ sources-append : (xs ys : List File) → map (λ (x : File). x.source) (xs ++ ys
 sources-append [] ys = refl
 sources-append (x ∷ xs) ys = ap (λ zs. x.source ∷ zs) (sources-append xs ys)
 
-both_true : (a b : Bool) → a && b ≡ true → (a ≡ true) × (b ≡ true)
-both_true true b h = (refl, h)
-both_true false b h = absurd (false≢true h)
-
 -- ------------------------------------------------------------ every plan
 
 -- whether scans are read, trees, tops, a number of sources, files and their places that belong together
@@ -211,7 +208,7 @@ module _ (f : Doing) where
       (sources_in p + sources_in q) (λ s. files_of f p s ++ files_of f q (s + sources_in p)) (places_of p ++ places_of q)
   joins op p q h i = record {
     bag = λ b w k s. (
-        let c = both_true (reads_all p) (reads_all q) b in
+        let c = and_parts (reads_all p) (reads_all q) b in
         let k2 = k + stages_in p in
         let s2 = s + sources_in p in
         let x = paired_weighs w op (partitions_of f p k s) (partitions_of f q k2 s2) in
@@ -238,7 +235,7 @@ module _ (f : Doing) where
       let r = filed_after (map (λ (p : Plan). (p, files_of f p)) (plans ps)) in
       record {
         bag = λ b w k s. (
-            let c = both_true (reads_all p.0) (all_true (map reads_all (plans ps))) b in
+            let c = and_parts (reads_all p.0) (all_true (map reads_all (plans ps))) b in
             let k2 = k + stages_in p.0 in
             let s2 = s + sources_in p.0 in
             let x = seeds_weigh-append w (partitions_of f p.0 k s) (g k2 s2) in

@@ -15,7 +15,8 @@ abbrev pub Reads : Tree → List (ℕ × ℕ) → Type 0
 Reads Nothing xs = xs ≡ []
 Reads (Files all files gave unread) xs = xs ≡ []
 Reads (Inlet g c gave unread over) xs = xs ≡ (g, c) ∷ []
-Reads (Node op t d inputs) xs = (parts : List (List (ℕ × ℕ))) × ((i : ℕ) → Reads (inputs i) (slice_index_or parts i [])) × (xs ≡ concat parts)
+Reads (Node op t d inputs) xs =
+    (parts : List (List (ℕ × ℕ))) × ((i : ℕ) → Reads (inputs i) (slice_index_or parts i [])) × (xs ≡ concat parts)
 
 abbrev pub own : Option ℕ → List ℕ
 own None = []
@@ -26,17 +27,21 @@ abbrev pub Reserves : Tree → List ℕ → Type 0
 Reserves Nothing cs = cs ≡ []
 Reserves (Files all files gave unread) cs = cs ≡ []
 Reserves (Inlet g c gave unread over) cs = cs ≡ []
-Reserves (Node op t d inputs) cs = (parts : List (List ℕ)) × ((i : ℕ) → Reserves (inputs i) (slice_index_or parts i [])) × (cs ≡ own op.consumer ++ concat parts)
+Reserves (Node op t d inputs) cs =
+    (parts : List (List ℕ)) × ((i : ℕ) → Reserves (inputs i) (slice_index_or parts i []))
+    × (cs ≡ own op.consumer ++ concat parts)
 
 -- the leaves of the tree read these files, left to right
 abbrev pub Opens : Tree → List File → Type 0
 Opens Nothing fs = fs ≡ []
 Opens (Files all files gave unread) fs = fs ≡ files
 Opens (Inlet g c gave unread over) fs = fs ≡ []
-Opens (Node op t d inputs) fs = (parts : List (List File)) × ((i : ℕ) → Opens (inputs i) (slice_index_or parts i [])) × (fs ≡ concat parts)
+Opens (Node op t d inputs) fs =
+    (parts : List (List File)) × ((i : ℕ) → Opens (inputs i) (slice_index_or parts i [])) × (fs ≡ concat parts)
 
--- the tree of a layout's partition, from the next stage k and the next consumer c, where the stages below m open in it: it reads the
--- partition's channels, in order, and has its consumers, numbered from c; each is at one place; and nothing was asked of it
+-- the tree of a layout's partition, from the next stage k and the next consumer c, where the stages below m open in
+-- it: it reads the partition's channels, in order, and has its consumers, numbered from c; each is at one place; and
+-- nothing was asked of it
 pub record IsTreeOf (k m c : ℕ) (p : Part) (t : Tree) : Type 0 where
   pub reads : Reads t p.receives
   pub reserves : Reserves t (numbers_from c (length p.consumers))

@@ -20,7 +20,8 @@ filed_after [] s = []
 filed_after (p ∷ ps) s = p.1 s ++ filed_after ps (s + sources_in p.0)
 
 abbrev pub file_node : Doing → Plan-F (Plan × Filing) → Filing
-file_node f (Plan-F.Scan table kinds files partitions) s = map (λ (x : ℕ). record { source = s + x; items = f.items table x }) (numbers files)
+file_node f (Plan-F.Scan table kinds files partitions) s =
+    map (λ (x : ℕ). record { source = s + x; items = f.items table x }) (numbers files)
 file_node f (Plan-F.Filter input test) s = input.1 s
 file_node f (Plan-F.Project input items) s = input.1 s
 file_node f (Plan-F.PartialGroup input keys calls) s = input.1 s

@@ -10,8 +10,9 @@ use Rattle.logical_plan.specs.Items.{Cells, Item}
 use Rattle.task_trees.specs.Operators.{Told, Op}
 use Rattle.task_trees.specs.Trees.{Desk, File, in_files, Tree, Nothing, Files, Inlet, Node}
 
--- what the nodes of plans do: the operator of a node, which sees its inputs' plans, over so many inputs in the tree, with the number of its
--- consumer; the channel of a row by a hash of columns, of so many channels; and the items of a table's file
+-- what the nodes of plans do: the operator of a node, which sees its inputs' plans, over so many inputs in the tree,
+-- with the number of its consumer; the channel of a row by a hash of columns, of so many channels; and the items of a
+-- table's file
 pub record Doing : Type 0 where
   pub operator : Plan-F Plan → ℕ → ℕ → Op
   pub channel : List ℕ → ℕ → Cells → ℕ
@@ -87,8 +88,8 @@ scan files = Files (in_files files) files [] []
 
 -- ------------------------------------------------------------ the partitions of a plan
 
--- a partition: the files that its leaves read; for each of its consumers whether it is spillable, node before inputs; and its tree, by the
--- number of the first of them
+-- a partition: the files that its leaves read; for each of its consumers whether it is spillable, node before inputs;
+-- and its tree, by the number of the first of them
 pub record Seed : Type 0 where
   pub files : List File
   pub consumers : List Bool
@@ -108,7 +109,12 @@ holding b op s = record { files = s.files; consumers = b ∷ s.consumers; tree =
 
 -- two inputs under an operator with a consumer
 abbrev pub pairing : (ℕ → Op) → Seed → Seed → Seed
-pairing op l r = record { files = l.files ++ r.files; consumers = false ∷ (l.consumers ++ r.consumers); tree = λ c. node (op c) (l.tree (c + 1) ∷ r.tree (c + 1 + length l.consumers) ∷ []) }
+pairing op l r =
+    record {
+      files = l.files ++ r.files;
+      consumers = false ∷ (l.consumers ++ r.consumers);
+      tree = λ c. node (op c) (l.tree (c + 1) ∷ r.tree (c + 1 + length l.consumers) ∷ []);
+    }
 
 -- partition by partition; what is left over stands beside nothing
 abbrev pub paired : (ℕ → Op) → List Seed → List Seed → List Seed
@@ -118,7 +124,8 @@ paired op (l ∷ ls) (r ∷ rs) = pairing op l r ∷ paired op ls rs
 
 -- the files of partition i of n, from the number of the first file's source
 abbrev pub dealt_files : (ℕ → List Item) → ℕ → ℕ → ℕ → ℕ → List File
-dealt_files items source files n i = map (λ (f : ℕ). record { source = source + f; items = items f }) (filter (λ (f : ℕ). f % n == i) (numbers files))
+dealt_files items source files n i =
+    map (λ (f : ℕ). record { source = source + f; items = items f }) (filter (λ (f : ℕ). f % n == i) (numbers files))
 
 abbrev pub scanning : List File → Seed
 scanning files = record { files = files; consumers = []; tree = λ c. scan files }
@@ -131,7 +138,8 @@ abbrev pub inlets : ℕ → ℕ → List Seed
 inlets g n = map (λ (c : ℕ). leaf (inlet g c)) (numbers n)
 
 abbrev pub merged : (ℕ → ℕ → Op) → ℕ → ℕ → Seed
-merged op g n = record { files = []; consumers = []; tree = λ c. node (op n c) (map (λ (d : ℕ). inlet g d) (numbers n)) }
+merged op g n =
+    record { files = []; consumers = []; tree = λ c. node (op n c) (map (λ (d : ℕ). inlet g d) (numbers n)) }
 
 -- from the number of the next stage that opens, and that of the next source
 abbrev pub Growing : Type 0
@@ -146,16 +154,21 @@ abbrev pub grow : Doing → Plan-F (Plan × Growing) → Growing
 grow f (Plan-F.Scan table kinds files partitions) k s = scans (f.items table) s files partitions
 grow f (Plan-F.Filter input test) k s = map (passing (f.operator (Plan-F.Filter input.0 test) 1)) (input.1 k s)
 grow f (Plan-F.Project input items) k s = map (passing (f.operator (Plan-F.Project input.0 items) 1)) (input.1 k s)
-grow f (Plan-F.PartialGroup input keys calls) k s = map (holding true (f.operator (Plan-F.PartialGroup input.0 keys calls) 1)) (input.1 k s)
-grow f (Plan-F.FinalGroup input keys calls) k s = map (holding false (f.operator (Plan-F.FinalGroup input.0 keys calls) 1)) (input.1 k s)
+grow f (Plan-F.PartialGroup input keys calls) k s =
+    map (holding true (f.operator (Plan-F.PartialGroup input.0 keys calls) 1)) (input.1 k s)
+grow f (Plan-F.FinalGroup input keys calls) k s =
+    map (holding false (f.operator (Plan-F.FinalGroup input.0 keys calls) 1)) (input.1 k s)
 grow f (Plan-F.HashJoin kind left right keys rest) k s =
-    paired (f.operator (Plan-F.HashJoin kind left.0 right.0 keys rest) 2) (left.1 k s) (right.1 (k + stages_in left.0) (s + sources_in left.0))
+    paired (f.operator (Plan-F.HashJoin kind left.0 right.0 keys rest) 2) (left.1 k s)
+    (right.1 (k + stages_in left.0) (s + sources_in left.0))
 grow f (Plan-F.Sort input keys) k s = map (holding true (f.operator (Plan-F.Sort input.0 keys) 1)) (input.1 k s)
-grow f (Plan-F.Merge input keys) k s = merged (f.operator (Plan-F.Merge input.0 keys)) k (length (input.1 (k + 1) s)) ∷ []
+grow f (Plan-F.Merge input keys) k s =
+    merged (f.operator (Plan-F.Merge input.0 keys)) k (length (input.1 (k + 1) s)) ∷ []
 grow f (Plan-F.Coalesce input) k s = inlets k 1
 grow f (Plan-F.Repartition input to) k s = inlets k (partition_count to)
 grow f (Plan-F.UnionAll inputs) k s = grown_after inputs k s
-grow f (Plan-F.Limit input skip fetch) k s = map (passing (f.operator (Plan-F.Limit input.0 skip fetch) 1)) (input.1 k s)
+grow f (Plan-F.Limit input skip fetch) k s =
+    map (passing (f.operator (Plan-F.Limit input.0 skip fetch) 1)) (input.1 k s)
 
 -- the partitions of a plan
 unfoldable pub partitions_of : Doing → Plan → Growing

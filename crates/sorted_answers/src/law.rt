@@ -36,8 +36,8 @@ ghost use Rattle.sorted_answers.specs.Arranging.{IsArrangedAs};
 /// again (`left`); without fronts nothing is left (`over`). So a merge of the runs gives it
 /// (`merged`).
 ///
-/// As a sort of items it gives the faults and then the rows (`items`), and it is what a Sort node
-/// gives of the rows of each partition (`arranged`).
+/// As a sort of items it gives the faults and then the rows (`items`), and these are such as a Sort
+/// node may give of the rows of each partition (`arranged`).
 pub fn sort_law()
     ensures order { (keys : List Key) (taken : List Cells) → IsSorted (row_cmp keys) (sort_rows keys taken) }
     ensures stable { (keys : List Key) (taken : List Cells) → IsStable (row_cmp keys) taken (sort_rows keys taken) }
