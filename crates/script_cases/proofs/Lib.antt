@@ -1,1 +1,2 @@
 pub mod EscapeSteps
+pub mod RowSteps

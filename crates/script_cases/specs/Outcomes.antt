@@ -1,5 +1,6 @@
 -- Meaning: which records passed, and when a record does.
-use Rattle.std.specs.Prelude.{◌≡◌, ℕ, List, Bool, true, false, ⊤}
+use Rattle.std.specs.Prelude.{◌≡◌, ℕ, List, Bool, true, false}
+use Rattle.script_cases.specs.Rows.{rows_of, SameRows}
 use Rattle.script_cases.specs.declared.report.Outcome.{Outcome}
 use Rattle.script_cases.specs.declared.report.Outcome.TheVariants as went
 use Rattle.script_cases.specs.declared.record.Step.{Step}
@@ -22,10 +23,10 @@ counts (says.Refused one) = true
 abbrev pub is_counted : Step → Bool
 is_counted step = counts step.says
 
--- of rows in any order nothing is said here
+-- just these bytes, or the same rows
 abbrev pub MeetsOutput : Output → List ℕ → Type 0
 MeetsOutput (wanted.Exactly bytes) output = bytes.items ≡ output
-MeetsOutput (wanted.InAnyOrder bytes) output = ⊤
+MeetsOutput (wanted.InAnyOrder bytes) output = SameRows (rows_of bytes.items) (rows_of output)
 
 -- the status, standard output and standard error are what they must be
 pub record Meets (expected : Expected) (status : ℕ) (output error : List ℕ) : Type 0 where

@@ -104,7 +104,7 @@ fn meets(
     output: &[u8],
     error: &[u8],
 ) -> Result<bool, AllocError>
-    ensures { IfOk result (λ yes. IsTrue yes → Meets expected.now status output.now error.now) }
+    ensures { IfOk result (λ same. IsTrue same → Meets expected.now status output.now error.now) }
 {
     if status != expected.status {
         return Ok(false);
