@@ -11,7 +11,7 @@ use Rattle.run_journal.specs.declared.entry.EntryKind.{EntryKind}
 use Rattle.run_journal.specs.declared.entry.EntryKind.TheVariants.{Scanned, Freed, Wrote, Finished, Failed}
 use Rattle.gate_channels.specs.Gate.{is_empty, is_open}
 use Rattle.fair_pool.specs.Share.{held_by, can_spill, grants}
-use Rattle.core_frame.specs.Shape.{Shape, task_at}
+use Rattle.task_shape.specs.Shape.{Shape, task_at}
 use Rattle.core_frame.specs.Frame.{Frame, gate_of, channel_of, place_of, is_owned}
 use Rattle.core_frame.specs.Step.{Need, Scan, Recv, Send, Grow, Free, Writes, Finish, Fail, made, made_send, made_send_to, made_recv, made_grow, may_fail, cause_of, failed, owner_step, claim_step, frame_step, is_over}
 use Rattle.run_histories.specs.Histories.{Run, run_step, run_after}

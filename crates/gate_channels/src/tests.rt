@@ -1,5 +1,5 @@
 ghost use Rattle.std.specs.Prelude.{◌≡◌, ℕ, ◌<◌, [], ◌∷◌, ◌++◌, length, OnOk, IfOk};
-ghost use Rattle.gate_channels.specs.Tasks.{count};
+ghost use Rattle.task_shape.specs.Numbers.{count};
 
 use crate::{Group, Receiving, Sending, Woken};
 use dfx_value::NoMemory;

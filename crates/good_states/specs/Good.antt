@@ -6,7 +6,7 @@ use Rattle.physical_plan.specs.declared.plan.Plan.{Plan}
 use Rattle.physical_plan.specs.Layout.{shape}
 use Rattle.physical_plan.specs.Properties.{props, declared_of}
 use Rattle.node_laws.specs.Nodes.{Stands}
-use Rattle.core_frame.specs.Shape.{receives_at}
+use Rattle.task_shape.specs.Shape.{receives_at}
 use Rattle.core_frame.specs.Frame.{channel_of}
 use Rattle.core_frame.specs.Good.{IsGood}
 use Rattle.run_histories.specs.Contents.{took, IsTold}

@@ -4,7 +4,7 @@ use Rattle.std.proofs.Common.{ℕ, zero, suc, ◌+◌, ◌<◌, ◌≡◌, refl,
 use Rattle.std.proofs.lemmas.Bool.{false≢true}
 use Rattle.physical_plan.specs.declared.plan.Plan.{Plan}
 use Rattle.physical_plan.specs.Layout.{Part, Stage, layout, numbers_from, tasks_of, tasks_from, spills_of, shape, group_of, head_or, tail_of}
-use Rattle.core_frame.specs.Shape.{TaskShape, names, has, no_task}
+use Rattle.task_shape.specs.Shape.{TaskShape, names, has, no_task}
 use Rattle.logical_plan.specs.Items.{Cells}
 use Rattle.task_trees.specs.Trees.{Tree, HasInlet, HasConsumer, gave_of}
 use Rattle.task_trees.specs.Tasks.{Split, Task, IsTask, IsOut}

@@ -5,7 +5,7 @@ ghost use Rattle.physical_plan.specs.declared.plan.Plan.TheViews.{roll-Plan};
 ghost use Rattle.physical_plan.specs.declared.plan.Plan.TheFolds.{map-Plan};
 ghost use Rattle.physical_plan.specs.Counts.{counts_of};
 ghost use Rattle.physical_plan.specs.Layout.{Part, bare, numbers_from, layout, shape};
-ghost use Rattle.core_frame.specs.Shape.{task_at, names, has, is_group, width};
+ghost use Rattle.task_shape.specs.Shape.{task_at, names, has, is_group, width};
 ghost use Rattle.task_trees.specs.Trees.{File, Tree, Nothing, HasInlet, HasConsumer};
 ghost use Rattle.task_trees.specs.Runs.{IsStart, the_task};
 ghost use Rattle.task_trees.specs.Batches.{AreFilled};

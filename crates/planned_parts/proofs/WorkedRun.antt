@@ -6,7 +6,7 @@ use Rattle.dfx_value.specs.declared.value.Value.TheVariants as value
 use Rattle.run_journal.specs.declared.entry.Entry.{Entry}
 use Rattle.run_journal.specs.declared.entry.EntryKind.{EntryKind}
 use Rattle.run_journal.specs.declared.entry.EntryKind.TheVariants.{Claimed, Scanned, Received, Empty, Ended as EndedKind, Sent, Held, Wrote, Finished}
-use Rattle.core_frame.specs.Shape.{Shape}
+use Rattle.task_shape.proofs.Worked.{two_scans}
 use Rattle.core_frame.specs.Frame.{place_of}
 use Rattle.core_frame.specs.Step.{wake, put_gate, with_pool, move_to, progress_is, failed}
 use Rattle.core_frame.specs.declared.place.Place.{Place}
@@ -45,15 +45,6 @@ coalescing = Plan-F.Coalesce (roll-Plan scanning)
 
 abbrev plan : Plan
 plan = roll-Plan coalescing
-
-two_scans : Shape
-two_scans = record {
-  tasks = record { stage = 0; sends = None; targets = []; receives = (1, 0) ∷ []; consumers = [] }
-      ∷ record { stage = 1; sends = Some 1; targets = 0 ∷ []; receives = []; consumers = [] }
-      ∷ record { stage = 1; sends = Some 1; targets = 0 ∷ []; receives = []; consumers = [] } ∷ [];
-  widths = 0 ∷ 1 ∷ [];
-  spillable = [];
-}
 
 shape_is : shape plan ≡ two_scans
 unfolding shape layout two_scans

@@ -4,7 +4,7 @@ use Rattle.std.proofs.lemmas.List.{map-set, map-append}
 use Rattle.run_journal.specs.declared.entry.Entry.{Entry}
 use Rattle.run_journal.specs.declared.entry.EntryKind.{EntryKind}
 use Rattle.run_journal.specs.declared.entry.EntryKind.TheVariants.{Received, Dropped}
-use Rattle.core_frame.specs.Shape.{Shape, task_at}
+use Rattle.task_shape.specs.Shape.{Shape, task_at}
 use Rattle.core_frame.specs.Frame.{Frame, gate_of, channel_of, opening}
 use Rattle.core_frame.specs.Step.{Need, Scan, Recv, Send, Grow, Free, Writes, Finish, Fail, frame_step}
 use Rattle.run_histories.specs.Histories.{Reply, Gone, Past, Run, past_of, begun, first_batch, received_reply, none_live, reply_of, pasts_after, run_after, run_step, next_run, run_replay}

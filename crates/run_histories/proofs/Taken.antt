@@ -5,7 +5,7 @@ use Rattle.std.specs.List.{AllByRecursion}
 use Rattle.run_journal.specs.declared.entry.Entry.{Entry}
 use Rattle.run_journal.specs.declared.entry.EntryKind.{EntryKind}
 use Rattle.run_journal.specs.declared.entry.EntryKind.TheVariants.{Scanned, Received, Ended as EndedKind, Sent, Dropped, Granted, Refused as RefusedKind, Freed, Wrote}
-use Rattle.core_frame.specs.Shape.{Shape, task_at}
+use Rattle.task_shape.specs.Shape.{Shape, task_at}
 use Rattle.core_frame.specs.Frame.{Frame, channel_of}
 use Rattle.core_frame.specs.Step.{Need, Scan, Recv, Send, Grow, Free, Writes, Finish, Fail, frame_step}
 use Rattle.core_frame.specs.Sent.{SendFits, SendsFit, ChannelsFit}

@@ -5,11 +5,12 @@ use Rattle.run_journal.specs.declared.entry.EntryKind.{EntryKind}
 use Rattle.run_journal.specs.declared.entry.EntryKind.TheVariants.{Claimed, Scanned, Received, Empty, Ended as EndedKind, Sent, Held, Dropped, Granted, Refused as RefusedKind, Freed, Wrote, Finished}
 use Rattle.gate_channels.specs.Gate.{sent, received, ended, awaited, dropped, held}
 use Rattle.fair_pool.specs.Share.{held_by, share_of, grants}
-use Rattle.core_frame.specs.Shape.{Shape, IsShape}
+use Rattle.task_shape.specs.Shape.{Shape, IsShape}
 use Rattle.core_frame.specs.Step.{Need, Scan, Recv, Send, Grow, Free, Writes, Finish, wake, put_gate, with_pool, move_to, progress_is, failed}
 use Rattle.core_frame.specs.Carried.{map_step}
 use Rattle.core_frame.specs.Sent.{Passes, SendsFit}
-use Rattle.core_frame.proofs.ShapeTest.{is_shape}
+use Rattle.task_shape.proofs.ShapeTest.{is_shape}
+use Rattle.task_shape.proofs.Worked.{two_scans, one_sort}
 use Rattle.run_histories.specs.Histories.{Go, Batch, Ended, Gone, Past, past_of, Run, begun, next_run, run_replay}
 use Rattle.run_histories.specs.Contents.{took, has_end, parts_sent}
 use Rattle.run_histories.specs.Reserved.{kept}
@@ -28,15 +29,6 @@ pasts_of None = []
 pasts_of (Some r) = r.pasts
 
 -- ------------------------------------------------------------ a Coalesce over the scans of two files
-
-two_scans : Shape
-two_scans = record {
-  tasks = record { stage = 0; sends = None; targets = []; receives = (1, 0) ∷ []; consumers = [] }
-      ∷ record { stage = 1; sends = Some 1; targets = 0 ∷ []; receives = []; consumers = [] }
-      ∷ record { stage = 1; sends = Some 1; targets = 0 ∷ []; receives = []; consumers = [] } ∷ [];
-  widths = 0 ∷ 1 ∷ [];
-  spillable = [];
-}
 
 two_scans_run : List (Entry × Need ℕ)
 unfolding by
@@ -107,9 +99,6 @@ unfolding sender
 sent_to_second = refl
 
 -- ------------------------------------------------------------ a sort that spills
-
-one_sort : Shape
-one_sort = record { tasks = record { stage = 0; sends = None; targets = []; receives = []; consumers = 0 ∷ [] } ∷ []; widths = 0 ∷ []; spillable = true ∷ [] }
 
 -- five rows of 16 bytes, two a batch
 one_sort_run : List (Entry × Need ℕ)

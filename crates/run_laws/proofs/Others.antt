@@ -5,10 +5,10 @@ use Rattle.run_journal.specs.declared.entry.EntryKind.{EntryKind}
 use Rattle.run_journal.specs.declared.cause.Cause.TheVariants.{NoMemory}
 use Rattle.run_journal.specs.declared.entry.EntryKind.TheVariants.{Claimed, Failed}
 use Rattle.run_journal.specs.SameKind.{same_kind}
-use Rattle.gate_channels.specs.Tasks.{one, count}
+use Rattle.task_shape.specs.Numbers.{one, count}
 use Rattle.gate_channels.specs.Gate.{Channel, Gate, Moved, no_channel, no_gate, channel_at, one_of, put, after_send, sent, after_taking, received, ends_last, woken_by_end, ended, dropped, held, awaited}
-use Rattle.gate_channels.proofs.Tasks.{one_same, one_no, same_or_not, count-append}
-use Rattle.core_frame.specs.Shape.{Shape, task_at}
+use Rattle.task_shape.proofs.Numbers.{one_same, one_no, same_or_not, count-append}
+use Rattle.task_shape.specs.Shape.{Shape, task_at}
 use Rattle.core_frame.specs.declared.place.Place.{Place}
 use Rattle.core_frame.specs.declared.place.Place.TheVariants.{Woken, OwnedBy, AtGate, AtChannel, Done}
 use Rattle.core_frame.specs.Frame.{Frame, place_of, gate_of, channel_of, is_owned}

@@ -3,7 +3,7 @@ use Rattle.std.proofs.Common.{ℕ, ◌≡◌, ◌≢◌, refl, sym, ap, ◌∙�
 use Rattle.std.proofs.lemmas.List.{append_cancel_left}
 use Rattle.std.proofs.lemmas.List.Elements.{filter-append}
 use Rattle.run_journal.specs.declared.entry.Entry.{Entry}
-use Rattle.core_frame.specs.Shape.{Shape}
+use Rattle.task_shape.specs.Shape.{Shape}
 use Rattle.core_frame.specs.declared.place.Place.TheVariants.{OwnedBy}
 use Rattle.core_frame.specs.Frame.{Frame, place_of}
 use Rattle.core_frame.specs.Lawful.{IsLawful}

@@ -1,7 +1,7 @@
 -- A reached state of a run of tasks: its frame is lawful, and its loans are those of its entries.
 use Rattle.std.proofs.Common.{ℕ, ◌≡◌, refl, sym, ap, ◌∙◌, subst, cond, eqb, List, [], ◌∷◌, map, Bool, true, false, Some}
 use Rattle.run_journal.specs.declared.entry.Entry.{Entry}
-use Rattle.core_frame.specs.Shape.{Shape, IsShape}
+use Rattle.task_shape.specs.Shape.{Shape, IsShape}
 use Rattle.run_histories.specs.Histories.{begun, frame_in}
 use Rattle.run_histories.proofs.Laws.{same_frames}
 use Rattle.task_trees.specs.Runs.{State, IsStart, IsReached}

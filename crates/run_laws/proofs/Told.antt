@@ -8,7 +8,7 @@ use Rattle.run_journal.specs.declared.entry.EntryKind.TheVariants.{Claimed, Yiel
 use Rattle.run_journal.specs.SameKind.{same_kind}
 use Rattle.gate_channels.specs.Gate.{is_empty, is_open}
 use Rattle.fair_pool.specs.Share.{can_spill, held_by, grants}
-use Rattle.core_frame.specs.Shape.{Shape, task_at}
+use Rattle.task_shape.specs.Shape.{Shape, task_at}
 use Rattle.core_frame.specs.Frame.{Frame, place_of, gate_of, channel_of, is_owned}
 use Rattle.core_frame.specs.Step.{Need, Scan, Recv, Send, Grow, Free, Writes, Finish, Fail, made_send, made_send_to, made_recv, made_grow, made, owner_step, claim_step, is_over, frame_step}
 use Rattle.run_histories.specs.Histories.{reply_of, pasts_after, run_after}

@@ -1,7 +1,7 @@
 -- Words: what a run keeps by each act, and what it keeps where it is told.
 use Rattle.std.specs.Prelude.{ℕ, ◌≡◌, Some, List}
 use Rattle.run_journal.specs.declared.entry.Entry.{Entry}
-use Rattle.core_frame.specs.Shape.{Shape}
+use Rattle.task_shape.specs.Shape.{Shape}
 use Rattle.core_frame.specs.Frame.{Frame, opening}
 use Rattle.core_frame.specs.Good.{AreOwn}
 use Rattle.core_frame.specs.Lawful.{IsLawful}

@@ -1,7 +1,7 @@
 ghost use Rattle.std.specs.Prelude.{◌≡◌, ◌++◌, ◌≢◌, ◌↔◌, ℕ, true, false, List, [], ◌∷◌, map};
 ghost use Rattle.std.specs.Prelude.{Some, None, is_some, option_map};
 ghost use Rattle.run_journal.specs.declared.entry.Entry.{Entry};
-ghost use Rattle.core_frame.specs.Shape.{Shape, IsShape};
+ghost use Rattle.task_shape.specs.Shape.{Shape, IsShape};
 ghost use Rattle.core_frame.specs.declared.place.Place.TheVariants.{OwnedBy};
 ghost use Rattle.core_frame.specs.Frame.{Frame, place_of, owns, opening};
 ghost use Rattle.core_frame.specs.Good.{IsOwn, AreOwn};

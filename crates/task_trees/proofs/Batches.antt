@@ -2,7 +2,7 @@
 use Rattle.std.proofs.Common.{ℕ, zero, suc, ◌<◌, ◌≡◌, refl, sym, subst, List, [], ◌∷◌, ◌++◌, length, take, drop, Bool, true, false, Option, Some, None, Ok, Err, arith}
 use Rattle.dfx_value.specs.declared.fault.ItemFault.{ItemFault}
 use Rattle.run_journal.specs.declared.entry.Entry.{Entry}
-use Rattle.core_frame.specs.Shape.{Shape, IsShape}
+use Rattle.task_shape.specs.Shape.{Shape, IsShape}
 use Rattle.core_frame.specs.Step.{Need, Scan, Recv, Send, Grow, Free, Writes, Finish, Fail}
 use Rattle.run_histories.specs.Histories.{Reply, Go, Batch, Ended, Refused, Gone, Past, past_of}
 use Rattle.logical_plan.specs.Items.{Cells, Item}

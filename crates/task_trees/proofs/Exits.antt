@@ -6,7 +6,7 @@ use Rattle.run_journal.specs.declared.entry.EntryKind.TheVariants.{Claimed, Scan
 use Rattle.run_journal.specs.declared.cause.Cause.TheVariants.{NoMemory}
 use Rattle.run_journal.specs.SameKind.{same_kind}
 use Rattle.run_journal.proofs.SameKind.{kind_is}
-use Rattle.core_frame.specs.Shape.{Shape, IsShape, task_at}
+use Rattle.task_shape.specs.Shape.{Shape, IsShape, task_at}
 use Rattle.core_frame.specs.Frame.{Frame, place_of, is_owned}
 use Rattle.core_frame.specs.Step.{Need, Scan, Recv, Send, Grow, Free, Writes, Finish, Fail, may_fail, is_yielded, claim_step, owner_step, is_over, frame_step, made, made_send, made_send_to, made_recv, made_grow}
 use Rattle.run_histories.specs.Histories.{Reply, Go, Batch, Ended, Refused, Gone, Past, past_of}

@@ -5,7 +5,7 @@ use Rattle.std.proofs.lemmas.Bool.Decides.{eqb_tells}
 use Rattle.dfx_value.specs.declared.fault.ItemFault.{ItemFault}
 use Rattle.run_journal.specs.declared.entry.Entry.{Entry}
 use Rattle.fair_pool.specs.Share.{held_by}
-use Rattle.core_frame.specs.Shape.{Shape, IsShape, HasOwners, task_at, has}
+use Rattle.task_shape.specs.Shape.{Shape, IsShape, HasOwners, task_at, has}
 use Rattle.core_frame.specs.Frame.{place_of, unfinished}
 use Rattle.core_frame.specs.Step.{Need, Scan, Recv, Send, Grow, Free, Writes, Finish, Fail}
 use Rattle.run_histories.specs.Histories.{Reply, Go, Batch, Ended, Refused, Gone, Past, past_of}

@@ -2,8 +2,8 @@
 use Rattle.std.proofs.Common.{ℕ, ◌<◌, ◌≡◌, ◌≢◌, ◌⊎◌, inl, inr, refl, sym, ap, ◌∙◌, subst, List, [], ◌∷◌, ◌++◌, length, set, Option, Some, None}
 use Rattle.run_journal.specs.declared.entry.Entry.{Entry}
 use Rattle.run_journal.specs.declared.entry.EntryKind.{EntryKind}
-use Rattle.gate_channels.proofs.Tasks.{same_or_not}
-use Rattle.core_frame.specs.Shape.{Shape, IsShape}
+use Rattle.task_shape.proofs.Numbers.{same_or_not}
+use Rattle.task_shape.specs.Shape.{Shape, IsShape}
 use Rattle.run_histories.specs.Histories.{Reply, Past, Run, past_of, pasts_after, reply_of}
 use Rattle.run_histories.specs.Recorded.{IsRecorded}
 use Rattle.run_histories.proofs.Lists.{IsLonger, longer}

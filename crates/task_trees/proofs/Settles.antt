@@ -1,7 +1,7 @@
 -- More steps give the same.
 use Rattle.std.proofs.Common.{ℕ, zero, suc, ◌+◌, ◌≤◌, ◌≡◌, refl, sym, ap, ◌∙◌, subst, List, [], ◌∷◌, ◌++◌, Bool, true, false, Option, Some, None, arith}
 use Rattle.run_journal.specs.declared.entry.Entry.{Entry}
-use Rattle.core_frame.specs.Shape.{Shape}
+use Rattle.task_shape.specs.Shape.{Shape}
 use Rattle.task_trees.specs.Tasks.{Task, Turn, Goes, Waits, Wait, turn, settled, settle}
 use Rattle.task_trees.specs.Runs.{State, the_task, asks_nothing, wait_by, step_by, state_step, next_state, state_replay}
 use Rattle.task_trees.specs.Settles.{Settles, Leads}

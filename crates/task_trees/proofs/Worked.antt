@@ -8,7 +8,7 @@ use Rattle.run_journal.specs.declared.entry.EntryKind.{EntryKind}
 use Rattle.run_journal.specs.declared.entry.EntryKind.TheVariants.{Claimed, Scanned, Received, Empty, Ended as EndedKind, Sent, Held, Granted, Refused as RefusedKind, Freed, Wrote, Finished}
 use Rattle.gate_channels.specs.Gate.{sent, received, ended, awaited, dropped, held}
 use Rattle.fair_pool.specs.Share.{share_of, grants, held_by}
-use Rattle.core_frame.specs.Shape.{Shape}
+use Rattle.task_shape.proofs.Worked.{two_scans, one_sort}
 use Rattle.core_frame.specs.Step.{Need, Scan, Grow, Free, Writes, Fail, wake, put_gate, with_pool, move_to, progress_is, failed}
 use Rattle.run_histories.specs.Histories.{Go, past_of, begun}
 use Rattle.run_histories.specs.Reserved.{kept}
@@ -36,15 +36,6 @@ needs_of t None = []
 needs_of t (Some s) = map (λ x. x.0) (past_of s.run.pasts t)
 
 -- ------------------------------------------------------------ a Coalesce over the scans of two files
-
-two_scans : Shape
-two_scans = record {
-  tasks = record { stage = 0; sends = None; targets = []; receives = (1, 0) ∷ []; consumers = [] }
-      ∷ record { stage = 1; sends = Some 1; targets = 0 ∷ []; receives = []; consumers = [] }
-      ∷ record { stage = 1; sends = Some 1; targets = 0 ∷ []; receives = []; consumers = [] } ∷ [];
-  widths = 0 ∷ 1 ∷ [];
-  spillable = [];
-}
 
 -- each batch goes whole to channel 0
 to_first : Split
@@ -79,9 +70,6 @@ unfolding two_scans two_scans_start root scan_of to_first row by output_of sent 
 no_early_send = refl
 
 -- ------------------------------------------------------------ a sort that spills
-
-one_sort : Shape
-one_sort = record { tasks = record { stage = 0; sends = None; targets = []; receives = []; consumers = 0 ∷ [] } ∷ []; widths = 0 ∷ []; spillable = true ∷ [] }
 
 -- the rows in the order taken, after the end; each takes 4 bytes
 kept_rows : Op

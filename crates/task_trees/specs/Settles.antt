@@ -1,7 +1,7 @@
 -- Meaning: what a task comes to, and where entries lead, within some number of steps.
 use Rattle.std.specs.Prelude.{ℕ, ◌≡◌, Some, List}
 use Rattle.run_journal.specs.declared.entry.Entry.{Entry}
-use Rattle.core_frame.specs.Shape.{Shape}
+use Rattle.task_shape.specs.Shape.{Shape}
 use Rattle.task_trees.specs.Tasks.{Task, Wait, settle}
 use Rattle.task_trees.specs.Runs.{State, state_replay}
 

@@ -8,7 +8,7 @@ use Rattle.std.proofs.lemmas.List.Folds.{sum_by-zero}
 use Rattle.std.proofs.lemmas.List.Sums.{sum_by-append, list_all-from_AllPass, AllPass-from_list_all}
 use Rattle.std.specs.List.Sorted.{IsPermutation}
 use Rattle.std.proofs.lemmas.List.Sorted.{sum_by-IsPermutation}
-use Rattle.gate_channels.proofs.Tasks.{same_or_not, lt_or_le}
+use Rattle.task_shape.proofs.Numbers.{same_or_not, lt_or_le}
 use Rattle.run_histories.specs.Contents.{by_sender, parts_in}
 use Rattle.logical_plan.specs.Items.{Cells, Item, of_rows, concat}
 use Rattle.task_trees.specs.Tasks.{Parts, Split, all_parts}

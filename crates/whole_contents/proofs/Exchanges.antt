@@ -5,8 +5,8 @@ use Rattle.std.proofs.lemmas.List.{append-nil}
 use Rattle.std.proofs.lemmas.List.Sums.{sum_by-append}
 use Rattle.std.proofs.Math.ListN.{get_or-eq_default}
 use Rattle.run_journal.specs.declared.entry.Entry.{Entry}
-use Rattle.gate_channels.proofs.Tasks.{same_or_not, lt_or_le}
-use Rattle.core_frame.specs.Shape.{Shape, IsShape, no_task, task_at, is_group, has, width}
+use Rattle.task_shape.proofs.Numbers.{same_or_not, lt_or_le}
+use Rattle.task_shape.specs.Shape.{Shape, IsShape, no_task, task_at, is_group, has, width}
 use Rattle.run_histories.specs.Contents.{took, parts_sent, sent_to, by_sender, parts_in, IsContents}
 use Rattle.logical_plan.specs.Items.{Cells, Item, of_rows, concat}
 use Rattle.task_trees.specs.Trees.{gave_of}

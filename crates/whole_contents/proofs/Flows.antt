@@ -3,8 +3,8 @@ use Rattle.std.proofs.Common.{ℕ, zero, suc, ◌+◌, ◌<◌, ◌≤◌, ◌�
 use Rattle.std.proofs.lemmas.Bool.{eqb-true}
 use Rattle.std.proofs.lemmas.List.{append-nil, drop_at}
 use Rattle.run_journal.specs.declared.entry.Entry.{Entry}
-use Rattle.gate_channels.proofs.Tasks.{lt_or_le}
-use Rattle.core_frame.specs.Shape.{TaskShape, Shape, IsShape, no_task, task_at, is_group, has, width, receives_at}
+use Rattle.task_shape.proofs.Numbers.{lt_or_le}
+use Rattle.task_shape.specs.Shape.{TaskShape, Shape, IsShape, no_task, task_at, is_group, has, width, receives_at}
 use Rattle.run_histories.specs.Contents.{took, has_end, parts_sent, IsContents, IsTold}
 use Rattle.run_histories.proofs.Laws.{recorded}
 use Rattle.logical_plan.specs.Items.{Cells, Item, of_rows, concat}

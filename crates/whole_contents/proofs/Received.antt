@@ -2,7 +2,7 @@
 use Rattle.std.proofs.Common.{ℕ, zero, suc, ◌≡◌, refl, sym, subst, eqb, cond, List, [], ◌∷◌, ◌++◌, Bool, true, false}
 use Rattle.std.proofs.lemmas.Bool.{eq-eqb}
 use Rattle.run_journal.specs.declared.entry.Entry.{Entry}
-use Rattle.core_frame.specs.Shape.{Shape, IsShape, task_at, is_group, receives_at}
+use Rattle.task_shape.specs.Shape.{Shape, IsShape, task_at, is_group, receives_at}
 use Rattle.core_frame.specs.Frame.{channel_of}
 use Rattle.run_histories.specs.Contents.{took, parts_sent, sent_to, by_sender, parts_in, IsContents}
 use Rattle.run_histories.proofs.Laws.{recorded}

@@ -5,7 +5,7 @@ use Rattle.std.proofs.lemmas.Bool.{eq-eqb}
 use Rattle.std.proofs.lemmas.Bool.Decides.{eqb_tells}
 use Rattle.std.proofs.lemmas.List.{append-nil}
 use Rattle.std.proofs.lemmas.List.Sums.{sum_by-cons}
-use Rattle.core_frame.specs.Shape.{Shape, task_at, has, width}
+use Rattle.task_shape.specs.Shape.{Shape, task_at, has, width}
 use Rattle.logical_plan.specs.Items.{Cells, Item, of_rows, concat}
 use Rattle.task_trees.specs.Runs.{for_channel}
 use Rattle.task_trees.proofs.Deliveries.{for-append}

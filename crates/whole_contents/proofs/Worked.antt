@@ -2,7 +2,7 @@
 use Rattle.std.proofs.Common.{ℕ, ◌≡◌, inl, inr, refl, List, [], ◌∷◌, length, Some, None, true, false, Ok, Err}
 use Rattle.dfx_value.specs.declared.fault.ItemFault.{ItemFault}
 use Rattle.dfx_value.specs.declared.value.Value.TheVariants as value
-use Rattle.core_frame.specs.Shape.{Shape}
+use Rattle.task_shape.specs.Shape.{Shape}
 use Rattle.core_frame.specs.Frame.{opening}
 use Rattle.core_frame.specs.Step.{Send, Recv}
 use Rattle.run_histories.specs.Histories.{Past, Go, Batch, Gone}

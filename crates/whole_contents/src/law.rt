@@ -2,7 +2,7 @@ ghost use Rattle.std.specs.Prelude.{ℕ, ◌<◌, ◌≤◌, ◌≡◌, Bool, tr
 ghost use Rattle.std.specs.List.{sum_by, AllPass};
 ghost use Rattle.std.specs.List.Sorted.{IsPermutation};
 ghost use Rattle.run_journal.specs.declared.entry.Entry.{Entry};
-ghost use Rattle.core_frame.specs.Shape.{Shape, IsShape, task_at, has, is_group, receives_at, width};
+ghost use Rattle.task_shape.specs.Shape.{Shape, IsShape, task_at, has, is_group, receives_at, width};
 ghost use Rattle.core_frame.specs.Frame.{channel_of};
 ghost use Rattle.run_histories.specs.Contents.{took};
 ghost use Rattle.logical_plan.specs.Items.{Cells, Item, of_rows};
