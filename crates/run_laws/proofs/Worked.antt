@@ -12,16 +12,16 @@ use Rattle.core_frame.specs.declared.place.Place.TheVariants.{Woken, OwnedBy, Do
 use Rattle.core_frame.specs.Frame.{Frame, opening}
 use Rattle.core_frame.specs.Step.{Need, Scan, Recv, Send, frame_step, frame_replay, wake, put_gate, move_to, progress_is, failed}
 use Rattle.task_shape.proofs.Worked.{two_scans, two_scans_shape}
-use Rattle.run_histories.specs.Histories.{Go, begun}
+use Rattle.history_laws.specs.Histories.{Go, begun}
 use Rattle.logical_plan.specs.Items.{Cells, Item}
-use Rattle.task_trees.specs.Trees.{Files, Inlet}
-use Rattle.task_trees.specs.Tasks.{Split, Task, Wait, settle, IsTask}
-use Rattle.task_trees.specs.Runs.{State, the_task, AllTo, Fits, IsStart, state_replay}
+use Rattle.tree_laws.specs.Trees.{Files, Inlet}
+use Rattle.tree_laws.specs.Tasks.{Split, Task, Wait, settle, IsTask}
+use Rattle.tree_laws.specs.Runs.{State, the_task, AllTo, Fits, IsStart, state_replay}
 use Rattle.turn_cell.specs.declared.act.Act.{Act}
 use Rattle.turn_cell.specs.declared.act.Act.TheVariants.{Made, Returned}
 use Rattle.turn_cell.specs.Loans.{loan_of}
 use Rattle.turn_cell.specs.Acts.{journal_of, Follows}
-use Rattle.task_trees.specs.Settles.{Leads}
+use Rattle.tree_laws.specs.Settles.{Leads}
 use Rattle.run_laws.specs.Others.{IsLeft}
 use Rattle.run_laws.specs.Told.{answered}
 use Rattle.run_laws.specs.Loans.{gave_up}
