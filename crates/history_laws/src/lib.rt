@@ -7,6 +7,3 @@ pub use law::{
     carried_runs_law, held_opening, held_step, histories_law, recorded_opening, recorded_step,
     taken_law,
 };
-
-#[cfg(test)]
-mod tests;

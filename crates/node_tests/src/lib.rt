@@ -6,6 +6,8 @@ mod declared;
 #[cfg(test)]
 mod exchanges;
 #[cfg(test)]
+mod needs;
+#[cfg(test)]
 mod nodes;
 #[cfg(test)]
 mod shapes;

@@ -3,8 +3,8 @@
 ghost use Rattle.std.specs.Prelude.{◌≡◌, ◌<◌, ◌∷◌, [], All, length, IfOk};
 ghost use Rattle.dfx_value.specs.declared.kind.Kind.TheVariants as kind;
 
-use super::*;
 use dfx_value::{Batch, Builder, Bytes, Decimal, Kind, Row, Text, Value};
+use result_text::{header_text, rows_text};
 use std::alloc::Global;
 use std::process::Abort;
 use std::test::Fail;

@@ -3,7 +3,7 @@
 ghost use Rattle.std.specs.Prelude.{◌≡◌, ◌^◌, ◌<◌, true, false, length, Ok, IfOk};
 ghost use Rattle.dfx_value.specs.Kinds.{are_kinds};
 
-use super::*;
+use csv_source::CsvScan;
 use dfx_outside::MemSource;
 use dfx_value::{Batch, Bytes, Kind, Row, Value, push_value};
 use std::alloc::Global;

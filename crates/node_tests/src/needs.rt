@@ -1,9 +1,9 @@
 //! Cases worked by hand from the rules on needs and orders.
 
-use crate::{
+use dfx_value::{NoMemory, SortKey};
+use plan_props::{
     Distribution, Partitioning, Props, partition_count, satisfies_distribution, satisfies_order,
 };
-use dfx_value::{NoMemory, SortKey};
 use sqlite_items::Items;
 use std::alloc::Global;
 use std::test::Fail;

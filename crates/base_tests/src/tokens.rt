@@ -1,4 +1,5 @@
-use super::*;
+//! Tokens of texts.
+use sql_lexer::{TokenKind, token_text, tokens};
 use std::test::Fail;
 
 /// The tokens of a script, each with a letter for its kind and its text, or the refusal.

@@ -1,8 +1,9 @@
+//! Gates and woken tasks.
 ghost use Rattle.std.specs.Prelude.{◌≡◌, ℕ, ◌<◌, [], ◌∷◌, ◌++◌, length, OnOk, IfOk};
 ghost use Rattle.task_shape.specs.Numbers.{count};
 
-use crate::{Group, Receiving, Sending, Woken};
 use dfx_value::NoMemory;
+use gate_channels::{Group, Receiving, Sending, Woken};
 use std::alloc::{AllocError, Global};
 use std::process::Abort;
 use std::test::Fail;

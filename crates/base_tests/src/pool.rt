@@ -1,4 +1,5 @@
-use crate::{Exhausted, Pool};
+//! Reservations of one limit.
+use fair_pool::{Exhausted, Pool};
 use std::test::Fail;
 
 // The requests of the worked examples, in order: consumer, bytes, and what refuses them.

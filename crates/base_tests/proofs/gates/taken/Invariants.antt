@@ -1,5 +1,5 @@
 use Rattle.std.proofs.Common.{◌≡◌, length}
-use Rattle.gate_channels.proofs.tests.taken.Given as goal
+use Rattle.base_tests.proofs.gates.taken.Given as goal
 
 abbrev pub invariant-loop-tasks : goal.invariant-loop-tasks
 invariant-loop-tasks l = l.woken.room ≡ l.fn.woken.room

@@ -1,5 +1,6 @@
-use crate::{Cause, Entry, EntryKind, Journal, journal_text};
+//! The text of a journal.
 use dfx_value::{EvalFault, Seq};
+use run_journal::{Cause, Entry, EntryKind, Journal, journal_text};
 use std::alloc::{AllocFailed, Global};
 use std::test::Fail;
 
