@@ -1,10 +1,10 @@
 //! Standard output and standard error, which tell nothing of what they took.
 
-ghost use Rattle.std.specs.Prelude.{◌≡◌, ◌≤◌, ◌<◌, None, Ok, IfOk, OnErr};
+ghost use Rattle.std.specs.Prelude.{◌≡◌, ◌≤◌, ◌<◌, length, None, Ok, IfOk, OnErr};
 ghost use Rattle.dfx_outside.specs.Causes.{Rose};
 
 use dfx_outside::{OutsideRefused, Sink};
-use std::io::{self, Write};
+use std::io::{self, ErrorKind, Write};
 
 /// Standard output.
 #[derive(Drop)]
@@ -30,6 +30,19 @@ impl StdErr {
     pub fn new(rt: HostRuntime) -> StdErr {
         StdErr { rt, faults: 0 }
     }
+}
+
+/// Writes a piece, and again where a signal interrupts that.
+fn write_again<W: Write>(stream: &mut W, piece: &[u8]) -> io::Result<usize>
+    ensures within { IfOk result (λ n. n ≤ length piece.now) }
+{
+    for _ in 0..u64::MAX {
+        match stream.write(piece) {
+            Err(error) if error.kind() == ErrorKind::Interrupted => {}
+            written => return written,
+        }
+    }
+    Err(io::Error::from(ErrorKind::Interrupted))
 }
 
 /// What a write took; a write that took nothing of a piece that isn't empty is a failure, which is counted.
@@ -58,7 +71,7 @@ impl Sink for StdOut {
     ghost faults = { λ s. s.faults };
 
     fn write(&mut self, piece: &[u8]) -> Result<usize, OutsideRefused> {
-        let written = self.rt.stdout().write(piece);
+        let written = write_again(&mut self.rt.stdout(), piece);
         taken(written, &mut self.faults, piece.len())
     }
 }
@@ -69,7 +82,7 @@ impl Sink for StdErr {
     ghost faults = { λ s. s.faults };
 
     fn write(&mut self, piece: &[u8]) -> Result<usize, OutsideRefused> {
-        let written = self.rt.stderr().write(piece);
+        let written = write_again(&mut self.rt.stderr(), piece);
         taken(written, &mut self.faults, piece.len())
     }
 }
