@@ -4,7 +4,7 @@ use Rattle.task_shape.specs.Shape.{Shape, IsShape}
 use Rattle.task_shape.proofs.ShapeTest.{is_shape}
 
 -- a Coalesce over the scans of two files
-pub two_scans : Shape
+unfoldable pub two_scans : Shape
 two_scans = record {
   tasks = record { stage = 0; sends = None; targets = []; receives = (1, 0) ∷ []; consumers = [] }
       ∷ record { stage = 1; sends = Some 1; targets = 0 ∷ []; receives = []; consumers = [] }
@@ -18,7 +18,7 @@ unfolding two_scans
 two_scans_shape = is_shape two_scans refl
 
 -- two partitions of Merge, Sort, FinalGroup, a hash exchange, PartialGroup, a round-robin exchange, one scan
-pub grouped : Shape
+unfoldable pub grouped : Shape
 grouped = record {
   tasks = record { stage = 0; sends = None; targets = []; receives = (1, 0) ∷ (1, 1) ∷ []; consumers = [] }
       ∷ record { stage = 1; sends = Some 1; targets = 0 ∷ []; receives = (2, 0) ∷ []; consumers = 0 ∷ 1 ∷ [] }
@@ -35,7 +35,7 @@ unfolding grouped
 grouped_shape = is_shape grouped refl
 
 -- a sort that can spill
-pub one_sort : Shape
+unfoldable pub one_sort : Shape
 one_sort = record { tasks = record { stage = 0; sends = None; targets = []; receives = []; consumers = 0 ∷ [] } ∷ []; widths = 0 ∷ []; spillable = true ∷ [] }
 
 pub one_sort_shape : IsShape one_sort
