@@ -6,11 +6,11 @@ ghost use Rattle.dfx_outside.specs.Contents.{Contents};
 ghost use Rattle.dfx_prepare.specs.Listings as named;
 ghost use Rattle.dfx_prepare.specs.Outcomes.{Answers, IsListing};
 ghost use Rattle.dfx_prepare.specs.Preparing as spec;
-ghost use Rattle.dfx_prepare.specs.declared.failure.Failure.TheVariants as failure;
+ghost use Rattle.failure_text.specs.declared.failure.Failure.TheVariants as failure;
 
-use crate::failure::Failure;
 use dfx_outside::{Files, FilesRefused};
 use dfx_value::{NoMemory, Seq, Text};
+use failure_text::Failure;
 use sql_grammar::ast::TableAst;
 use std::alloc::Global;
 

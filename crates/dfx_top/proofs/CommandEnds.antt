@@ -8,8 +8,8 @@ use Rattle.dfx_outside.specs.Contents.{Contents, content}
 use Rattle.dfx_value.specs.declared.fault.ItemFault.{ItemFault}
 use Rattle.dfx_prepare.specs.Preparing.{Path, followed}
 use Rattle.dfx_prepare.specs.Outcomes.{Answers, IsPreparing}
-use Rattle.dfx_prepare.specs.declared.failure.Failure.{Failure}
-use Rattle.dfx_prepare.specs.declared.failure.Failure.TheVariants as failure
+use Rattle.failure_text.specs.declared.failure.Failure.{Failure}
+use Rattle.failure_text.specs.declared.failure.Failure.TheVariants as failure
 use Rattle.dfx_prepare.specs.declared.prepared.Prepared.{Prepared}
 use Rattle.dfx_top.specs.Answers.{EndedQuery, EndedExplain, text_of}
 use Rattle.dfx_top.specs.Asked.{Ready, ready, by_script, by_text, by_words, asked}

@@ -7,8 +7,8 @@ use Rattle.dfx_outside.specs.Contents.{Contents}
 use Rattle.dfx_value.specs.declared.fault.ItemFault.{ItemFault}
 use Rattle.logical_plan.specs.Body.{Tables, all_faults}
 use Rattle.dfx_prepare.specs.Preparing.{Path}
-use Rattle.dfx_prepare.specs.declared.failure.Failure.{Failure}
-use Rattle.dfx_prepare.specs.declared.failure.Failure.TheVariants as failure
+use Rattle.failure_text.specs.declared.failure.Failure.{Failure}
+use Rattle.failure_text.specs.declared.failure.Failure.TheVariants as failure
 use Rattle.dfx_prepare.specs.declared.prepared.Prepared.{Prepared}
 use Rattle.scan_run.specs.Chains.{Scanned, scanned, is_chain, is_there}
 use Rattle.scan_run.specs.Sources.{missing}

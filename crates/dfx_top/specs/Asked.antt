@@ -4,8 +4,8 @@ use Rattle.std.specs.Prelude.{ℕ, Bool, true, false, ◌&&◌, ◌==◌, nat_lt
 use Rattle.dfx_outside.specs.Contents.{Contents, content}
 use Rattle.logical_plan.specs.declared.query.Query.{Query}
 use Rattle.dfx_prepare.specs.Preparing.{Path, followed, prepared}
-use Rattle.dfx_prepare.specs.declared.failure.Failure.{Failure}
-use Rattle.dfx_prepare.specs.declared.failure.Failure.TheVariants as failure
+use Rattle.failure_text.specs.declared.failure.Failure.{Failure}
+use Rattle.failure_text.specs.declared.failure.Failure.TheVariants as failure
 use Rattle.dfx_prepare.specs.declared.prepared.Prepared.{Prepared}
 use Rattle.scan_run.specs.Chains.{Scanned, scanned, is_chain, has_sound_kinds}
 use Rattle.scan_run.specs.Sources.{missing}

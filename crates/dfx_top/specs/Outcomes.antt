@@ -5,10 +5,10 @@ use Rattle.dfx_value.specs.declared.fault.ItemFault.{ItemFault}
 use Rattle.dfx_value.specs.declared.fault.ItemFault.TheVariants.{Evaluation}
 use Rattle.csv_source.specs.declared.refused.CsvRefused.{CsvRefused}
 use Rattle.logical_plan.specs.declared.query.Query.{Query}
-use Rattle.dfx_prepare.specs.Failures.{status_of, failure_line}
+use Rattle.failure_text.specs.Failures.{status_of, failure_line}
 use Rattle.dfx_prepare.specs.Preparing.{Path}
-use Rattle.dfx_prepare.specs.declared.failure.Failure.{Failure}
-use Rattle.dfx_prepare.specs.declared.failure.Failure.TheVariants as failure
+use Rattle.failure_text.specs.declared.failure.Failure.{Failure}
+use Rattle.failure_text.specs.declared.failure.Failure.TheVariants as failure
 use Rattle.scan_run.specs.Chains.{scanned, is_chain, AreSound}
 use Rattle.scan_run.specs.Sources.{fault_of}
 use Rattle.scan_run.specs.declared.refused.RunRefused.{RunRefused}

@@ -3,7 +3,7 @@ use Rattle.std.specs.Prelude.{ℕ, ◌≡◌, List, [], Option, Some, None, Resu
 use Rattle.dfx_outside.specs.Contents.{Contents}
 use Rattle.dfx_outside.specs.Causes.{Rose}
 use Rattle.logical_plan.specs.Body.{Tables, all_faults}
-use Rattle.dfx_prepare.specs.declared.failure.Failure.{Failure}
+use Rattle.failure_text.specs.declared.failure.Failure.{Failure}
 use Rattle.dfx_prepare.specs.declared.prepared.Prepared.{Prepared}
 use Rattle.scan_run.specs.Chains.{Scanned, scanned}
 use Rattle.scan_run.specs.Outcomes.{HasFiles}

@@ -2,7 +2,7 @@
 
 ghost use Rattle.std.specs.Prelude.{◌≡◌, ◌≤◌, ℕ, List, Some, Err, IfErr};
 ghost use Rattle.dfx_outside.specs.Causes.{Rose};
-ghost use Rattle.dfx_prepare.specs.declared.failure.Failure.TheVariants as failure;
+ghost use Rattle.failure_text.specs.declared.failure.Failure.TheVariants as failure;
 ghost use Rattle.dfx_top.specs.Answers.{EndedExplain};
 ghost use Rattle.dfx_top.specs.Outcomes.{IsWriting, of_result};
 

@@ -5,7 +5,7 @@ ghost use Rattle.dfx_outside.specs.Causes.{Rose};
 ghost use Rattle.dfx_outside.specs.Contents.{Contents, content, Opens};
 ghost use Rattle.dfx_outside.specs.declared.files.FilesRefused.TheVariants as refusal;
 ghost use Rattle.dfx_top.specs.Outcomes.{IsOpening};
-ghost use Rattle.dfx_prepare.specs.declared.failure.Failure.TheVariants as failure;
+ghost use Rattle.failure_text.specs.declared.failure.Failure.TheVariants as failure;
 
 use dfx_outside::{Files, FilesRefused, OutsideRefused, read_all};
 use dfx_prepare::Failure;

@@ -3,7 +3,7 @@
 ghost use Rattle.std.specs.Prelude.{◌≡◌, ◌≤◌, ℕ, List, true, length, Some, Err, IfErr, IsTrue};
 ghost use Rattle.dfx_outside.specs.Causes.{Rose};
 ghost use Rattle.dfx_outside.specs.Contents.{Contents};
-ghost use Rattle.dfx_prepare.specs.declared.failure.Failure.TheVariants as failure;
+ghost use Rattle.failure_text.specs.declared.failure.Failure.TheVariants as failure;
 ghost use Rattle.dfx_top.specs.Asked as spec;
 ghost use Rattle.dfx_top.specs.Outcomes.{IsBuilt, IsRunning, of_result};
 ghost use Rattle.dfx_top.specs.Told.{Quiet, ToldQuery};
