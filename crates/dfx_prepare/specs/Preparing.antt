@@ -1,5 +1,6 @@
--- Meaning: what the text of a script is prepared to over files of these contents, for n partitions, or its
--- first refusal: its tokens, its grammar, its tables in the order of their statements, and its names and kinds.
+-- Meaning: what the text of a script is prepared to over files of these contents, for n partitions,
+-- or its first refusal: its tokens, its grammar, its tables in the order of their statements, and
+-- its names and kinds.
 use Rattle.std.specs.Prelude.{ℕ, ◌≡◌, Bool, List, [], ◌∷◌, map, filter, length, Result, Ok, Err, if◌then◌else◌}
 use Rattle.dfx_outside.specs.Contents.{Contents, has_folder}
 use Rattle.sql_lexer.specs.Tokens.{Tokens}
@@ -41,7 +42,8 @@ script_of text = of_tokens text (Tokens text)
 -- the files of a folder of CSV files
 abbrev pub folder_files : Contents → Path → Result (List Path) Failure
 folder_files all folder =
-    if has_folder all folder then Ok (filter is_csv (listing all folder)) else Err (failure.Missing folder)
+    if has_folder all folder then Ok (filter is_csv (listing all folder))
+    else Err (failure.Missing folder)
 
 -- the files of a table; those of a folder are looked up, a single one isn't
 abbrev pub table_files : Contents → TableAst → Result (List Path) Failure
@@ -62,7 +64,8 @@ files_of all (t ∷ ts) =
 
 -- a table as its statement declares it
 abbrev pub schema_of : TableAst → Schema
-schema_of t = record { table = t.name; names = map (λ c. c.0) t.columns; kinds = map (λ c. c.1) t.columns }
+schema_of t =
+    record { table = t.name; names = map (λ c. c.0) t.columns; kinds = map (λ c. c.1) t.columns }
 
 abbrev pub of_bound : Answer Query → Result Query Failure
 of_bound (Ok q) = Ok q
@@ -94,7 +97,8 @@ with_files tables n paths q = record {
 
 -- what a script is prepared to over these files of its tables
 abbrev pub prepared_over : Script → ℕ → List (List Path) → Result Prepared Failure
-prepared_over script n paths = followed (query_of script) (λ q. Ok (with_files script.tables n paths q))
+prepared_over script n paths =
+    followed (query_of script) (λ q. Ok (with_files script.tables n paths q))
 
 -- what a script is prepared to
 abbrev pub prepared_script : Contents → ℕ → Script → Result Prepared Failure

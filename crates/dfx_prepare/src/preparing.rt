@@ -96,7 +96,8 @@ fn planned_query(
     files: &[u32],
     n: u32,
 ) -> Result<(Query, Plan), Failure>
-    ensures found { OrMemory result (spec.followed (spec.query_of script.now) (λ q. Ok (q, spec.plan_of q files.now n))) }
+    ensures found { OrMemory result
+        (spec.followed (spec.query_of script.now) (λ q. Ok (q, spec.plan_of q files.now n))) }
     ensures planned { IfOk result (λ p. IsPlanned p.0 files.now p.1 n) }
     ensures querying { IfErr result IsQuerying }
 {
@@ -137,14 +138,17 @@ fn prepare_script<F: Files>(
     files: &mut F,
     n: u32,
 ) -> Result<Prepared, Failure>
-    ensures prepared { (all : Contents) → F.told files.old ≡ Some all → Answers result (spec.prepared_script all n script.now) }
+    ensures prepared { (all : Contents) → F.told files.old ≡ Some all
+        → Answers result (spec.prepared_script all n script.now) }
     ensures whole { IfOk result (λ p. spec.IsOf script.now n p) }
     ensures planned { IfOk result (λ p. IsPlanned p.query (map length p.paths) p.plan n) }
     ensures same { F.told files.new ≡ F.told files.old }
-    ensures later { (F.faults files.old ≤ F.faults files.new) × (F.absences files.old ≤ F.absences files.new) }
+    ensures later { (F.faults files.old ≤ F.faults files.new)
+        × (F.absences files.old ≤ F.absences files.new) }
 
     ensures read { result ≡ Err failure.Read → Rose (F.faults files.old) (F.faults files.new) }
-    ensures missing { (p : List ℕ) → result ≡ Err (failure.Missing p) → Rose (F.absences files.old) (F.absences files.new) }
+    ensures missing { (p : List ℕ) → result ≡ Err (failure.Missing p)
+        → Rose (F.absences files.old) (F.absences files.new) }
     ensures preparing { IfErr result IsPreparing }
 {
     let paths = files_of(alloc, files, script.tables.as_slice())?;
@@ -163,18 +167,22 @@ pub fn prepare<F: Files>(
     partitions: u32,
 ) -> Result<Prepared, Failure>
     // Where the files are told, this is answered, or a file failed, or there was no memory.
-    ensures prepared { (all : Contents) → F.told files.old ≡ Some all → Answers result (spec.prepared script.now all partitions) }
+    ensures prepared { (all : Contents) → F.told files.old ≡ Some all
+        → Answers result (spec.prepared script.now all partitions) }
 
     // Told or not, a text that spells no script is refused so, and what is prepared is the script's.
-    ensures script { (refusal : Refusal) → spec.script_of script.now ≡ Err refusal → OrMemory result (Err refusal) }
+    ensures script { (refusal : Refusal) → spec.script_of script.now ≡ Err refusal
+        → OrMemory result (Err refusal) }
     ensures whole { IfOk result (λ p. spec.IsOfText script.now partitions p) }
     ensures planned { IfOk result (λ p. IsPlanned p.query (map length p.paths) p.plan partitions) }
 
     // The files stay, and their counts tell of absences and faults.
     ensures same { F.told files.new ≡ F.told files.old }
-    ensures later { (F.faults files.old ≤ F.faults files.new) × (F.absences files.old ≤ F.absences files.new) }
+    ensures later { (F.faults files.old ≤ F.faults files.new)
+        × (F.absences files.old ≤ F.absences files.new) }
     ensures read { result ≡ Err failure.Read → Rose (F.faults files.old) (F.faults files.new) }
-    ensures missing { (p : List ℕ) → result ≡ Err (failure.Missing p) → Rose (F.absences files.old) (F.absences files.new) }
+    ensures missing { (p : List ℕ) → result ≡ Err (failure.Missing p)
+        → Rose (F.absences files.old) (F.absences files.new) }
 
     // No other failure comes of preparing.
     ensures preparing { IfErr result IsPreparing }

@@ -34,7 +34,9 @@ file_text path what = codes "file " ++ path ++ codes ": " ++ what
 
 -- a refused file's number, row and column; no file is refused for another cause
 abbrev pub cause_text : Cause → List ℕ
-cause_text (cause.Csv source number row column) = codes "csv " ++ (decimal number ++ (codes " row " ++ (decimal row ++ (codes " column " ++ decimal column))))
+cause_text (cause.Csv source number row column) =
+    codes "csv " ++ (decimal number ++ (codes " row " ++ (decimal row ++ (codes " column "
+    ++ decimal column))))
 cause_text (cause.Arrow source number batch column place) = codes "arrow " ++ decimal number
 cause_text other = []
 
@@ -81,7 +83,9 @@ binder_place (binder.NoFiles place) = place
 binder_place binder.NoMemory = 0
 
 abbrev pub binder_text : BindRefused → List ℕ
-binder_text refused = codes "sql binder " ++ (decimal (binder_number refused) ++ (codes " at " ++ decimal (binder_place refused)))
+binder_text refused =
+    codes "sql binder " ++ (decimal (binder_number refused) ++ (codes " at "
+    ++ decimal (binder_place refused)))
 
 abbrev pub evaluation_text : EvalFault → List ℕ
 evaluation_text fault.Overflow = codes "evaluation: overflow"

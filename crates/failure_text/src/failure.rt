@@ -181,7 +181,8 @@ fn evaluation_string(alloc: Global, fault: EvalFault) -> Result<String, NoMemory
 }
 
 fn bad_file_string(alloc: Global, path: &Text, cause: Cause) -> Result<String, NoMemory>
-    ensures { IfOk result (λ text. string_bytes text ≡ spec.file_text path.now (spec.cause_text cause)) }
+    ensures { IfOk result (λ text. string_bytes text
+        ≡ spec.file_text path.now (spec.cause_text cause)) }
 {
     let what = cause_string(alloc, cause)?;
     file_text(alloc, path, what.as_str())

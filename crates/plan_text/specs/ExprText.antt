@@ -32,7 +32,8 @@ constant_text (value.Text t) = quoted t
 constant_text v = printed v
 
 abbrev pub decimal_kind : ℕ → ℕ → List ℕ
-decimal_kind precision scale = codes "DECIMAL(" ++ (decimal precision ++ (codes "," ++ (decimal scale ++ codes ")")))
+decimal_kind precision scale =
+    codes "DECIMAL(" ++ (decimal precision ++ (codes "," ++ (decimal scale ++ codes ")")))
 
 abbrev pub kind_text : Kind → List ℕ
 kind_text kind.Bool = codes "BOOLEAN"
@@ -71,8 +72,10 @@ level_text (Expr-F.Const v kind) = constant_text v
 level_text (Expr-F.Not a) = call_of (codes "NOT") a
 level_text (Expr-F.Neg a) = call_of (codes "NEG") a
 level_text (Expr-F.IsNull a) = call_of (codes "ISNULL") a
-level_text (Expr-F.Binary op a b) = codes "(" ++ (a ++ (codes " " ++ (op_text op ++ (codes " " ++ (b ++ codes ")")))))
-level_text (Expr-F.Case arms other) = call_of (codes "CASE") (joined (map arm_text arms ++ (codes "ELSE " ++ other) ∷ []))
+level_text (Expr-F.Binary op a b) =
+    codes "(" ++ (a ++ (codes " " ++ (op_text op ++ (codes " " ++ (b ++ codes ")")))))
+level_text (Expr-F.Case arms other) =
+    call_of (codes "CASE") (joined (map arm_text arms ++ (codes "ELSE " ++ other) ∷ []))
 level_text (Expr-F.Coalesce parts) = call_of (codes "COALESCE") (joined parts)
 level_text (Expr-F.Cast a kind) = call_of (codes "CAST") (a ++ (codes " AS " ++ kind_text kind))
 level_text (Expr-F.Abs a) = call_of (codes "ABS") a
@@ -86,4 +89,5 @@ expr_text = fold-Expr (List ℕ) level_text
 -- the arms of a CASE, each ended by a comma and a space
 abbrev pub arms_text : List (Expr × Expr) → List ℕ
 arms_text [] = []
-arms_text (arm ∷ arms) = arm_text (expr_text arm.0, expr_text arm.1) ++ (codes ", " ++ arms_text arms)
+arms_text (arm ∷ arms) =
+    arm_text (expr_text arm.0, expr_text arm.1) ++ (codes ", " ++ arms_text arms)

@@ -72,25 +72,33 @@ abbrev pub name_of : List (List ℕ) → ℕ → List ℕ
 name_of names table = slice_index_or names table []
 
 abbrev pub scan_text : List ℕ → ℕ → ℕ → List ℕ
-scan_text name partitions files = codes "Scan " ++ (name ++ (codes " partitions=" ++ (decimal partitions ++ (codes " files=" ++ decimal files))))
+scan_text name partitions files =
+    codes "Scan " ++ (name ++ (codes " partitions=" ++ (decimal partitions ++ (codes " files="
+    ++ decimal files))))
 
 abbrev pub group_text : List ℕ → List AggCall → List ℕ
-group_text keys calls = codes " keys=" ++ (columns_text keys ++ (codes " calls=" ++ bracketed (map call_text calls)))
+group_text keys calls =
+    codes " keys=" ++ (columns_text keys ++ (codes " calls=" ++ bracketed (map call_text calls)))
 
 abbrev pub hash_join_text : JoinKind → List (ℕ × ℕ) → Option Expr → List ℕ
-hash_join_text kind keys rest = codes "HashJoin " ++ (join_text kind ++ (codes " keys=" ++ (bracketed (map pair_text keys) ++ (codes " rest=" ++ rest_text rest))))
+hash_join_text kind keys rest =
+    codes "HashJoin " ++ (join_text kind ++ (codes " keys=" ++ (bracketed (map pair_text keys)
+    ++ (codes " rest=" ++ rest_text rest))))
 
 abbrev pub limit_text : ℕ → Option ℕ → List ℕ
-limit_text skip fetch = codes "Limit skip=" ++ (decimal skip ++ (codes " fetch=" ++ fetch_text fetch))
+limit_text skip fetch =
+    codes "Limit skip=" ++ (decimal skip ++ (codes " fetch=" ++ fetch_text fetch))
 
 -- ---- nodes
 
 -- what a node is, without its inputs, from the names of the tables
 abbrev pub words_of : {A : Type 0} → List (List ℕ) → Plan-F A → List ℕ
-words_of names (Plan-F.Scan table kinds files partitions) = scan_text (name_of names table) partitions files
+words_of names (Plan-F.Scan table kinds files partitions) =
+    scan_text (name_of names table) partitions files
 words_of names (Plan-F.Filter input test) = codes "Filter " ++ expr_text test
 words_of names (Plan-F.Project input items) = codes "Project " ++ bracketed (map expr_text items)
-words_of names (Plan-F.PartialGroup input keys calls) = codes "PartialGroup" ++ group_text keys calls
+words_of names (Plan-F.PartialGroup input keys calls) =
+    codes "PartialGroup" ++ group_text keys calls
 words_of names (Plan-F.FinalGroup input keys calls) = codes "FinalGroup" ++ group_text keys calls
 words_of names (Plan-F.HashJoin kind left right keys rest) = hash_join_text kind keys rest
 words_of names (Plan-F.Sort input keys) = codes "Sort " ++ bracketed (map key_text keys)

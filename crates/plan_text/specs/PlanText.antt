@@ -1,4 +1,5 @@
--- Meaning: the text of a plan: a line for each node, before those of its inputs, two spaces further in than the node above.
+-- Meaning: the text of a plan: a line for each node, before those of its inputs, two spaces further
+-- in than the node above.
 use Rattle.std.specs.Prelude.{ℕ, zero, suc, ◌+◌, List, [], ◌∷◌, ◌++◌, map, codes}
 use Rattle.physical_plan.specs.declared.plan.Plan.{Plan, out-Plan}
 use Rattle.physical_plan.specs.declared.plan.Plan.TheOpen.{Plan-F}

@@ -11,7 +11,8 @@ use std::fmt::Write;
 /// Appends a character, and a quote twice.
 #[tactic(auto, using(crate::proofs::Quotes::quote_twice, crate::proofs::Quotes::other_once))]
 fn push_character(text: &mut String, character: char) -> Result<(), NoMemory>
-    ensures { OnOk result (string_bytes text.new ≡ string_bytes text.old ++ spec.doubled (encode_utf8 character)) }
+    ensures { OnOk result (string_bytes text.new
+        ≡ string_bytes text.old ++ spec.doubled (encode_utf8 character)) }
 {
     if character == '\'' {
         Ok(text.push_str("''")?)
@@ -22,7 +23,8 @@ fn push_character(text: &mut String, character: char) -> Result<(), NoMemory>
 
 /// Appends a text, and each quote twice.
 fn push_doubled(text: &mut String, value: &str) -> Result<(), NoMemory>
-    ensures { OnOk result (string_bytes text.new ≡ string_bytes text.old ++ spec.doubled value.now) }
+    ensures { OnOk result (string_bytes text.new
+        ≡ string_bytes text.old ++ spec.doubled value.now) }
 {
     for character in value.chars() {
         push_character(text, character)?;
@@ -41,7 +43,8 @@ fn push_quoted(text: &mut String, value: &str) -> Result<(), NoMemory>
 
 /// Appends the text of a constant.
 pub fn push_constant(text: &mut String, value: &Value) -> Result<(), NoMemory>
-    ensures { OnOk result (string_bytes text.new ≡ string_bytes text.old ++ spec.constant_text value.now) }
+    ensures { OnOk result (string_bytes text.new
+        ≡ string_bytes text.old ++ spec.constant_text value.now) }
 {
     match value {
         Value::Null => Ok(text.push_str("NULL")?),
@@ -51,7 +54,8 @@ pub fn push_constant(text: &mut String, value: &Value) -> Result<(), NoMemory>
 }
 
 fn push_decimal_kind(text: &mut String, precision: u8, scale: u8) -> Result<(), NoMemory>
-    ensures { OnOk result (string_bytes text.new ≡ string_bytes text.old ++ spec.decimal_kind precision scale) }
+    ensures { OnOk result (string_bytes text.new
+        ≡ string_bytes text.old ++ spec.decimal_kind precision scale) }
 {
     Ok(write!(text, "DECIMAL({precision},{scale})")?)
 }
@@ -94,7 +98,8 @@ pub fn push_op(text: &mut String, op: Op) -> Result<(), NoMemory>
 
 /// Appends a column: a number sign and its number.
 pub fn push_column(text: &mut String, column: u32) -> Result<(), NoMemory>
-    ensures { OnOk result (string_bytes text.new ≡ string_bytes text.old ++ spec.column_text column) }
+    ensures { OnOk result (string_bytes text.new
+        ≡ string_bytes text.old ++ spec.column_text column) }
 {
     Ok(write!(text, "#{column}")?)
 }

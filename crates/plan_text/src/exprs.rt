@@ -12,7 +12,8 @@ use scalar_exprs::Expr;
 /// Appends an expression with what stands before and after it.
 #[cycle(exprs)]
 fn push_between(text: &mut String, before: &str, expr: &Expr, after: &str) -> Result<(), NoMemory>
-    ensures { OnOk result (string_bytes text.new ≡ string_bytes text.old ++ (before.now ++ (spec.expr_text expr.now ++ after.now))) }
+    ensures { OnOk result (string_bytes text.new
+        ≡ string_bytes text.old ++ (before.now ++ (spec.expr_text expr.now ++ after.now))) }
 {
     text.push_str(before)?;
     push_expr(text, expr)?;
@@ -22,7 +23,8 @@ fn push_between(text: &mut String, before: &str, expr: &Expr, after: &str) -> Re
 /// Appends expressions with a comma and a space between each two.
 #[cycle(exprs)]
 pub fn push_exprs(text: &mut String, exprs: &[Expr]) -> Result<(), NoMemory>
-    ensures { OnOk result (string_bytes text.new ≡ string_bytes text.old ++ joined (map spec.expr_text exprs.now)) }
+    ensures { OnOk result (string_bytes text.new
+        ≡ string_bytes text.old ++ joined (map spec.expr_text exprs.now)) }
 {
     let mut separator = "";
     for expr in exprs {
@@ -36,7 +38,8 @@ pub fn push_exprs(text: &mut String, exprs: &[Expr]) -> Result<(), NoMemory>
 /// Appends the tests of a CASE with their results.
 #[cycle(exprs)]
 fn push_arms(text: &mut String, arms: &[(Expr, Expr)]) -> Result<(), NoMemory>
-    ensures { OnOk result (string_bytes text.new ≡ string_bytes text.old ++ spec.arms_text arms.now) }
+    ensures { OnOk result (string_bytes text.new
+        ≡ string_bytes text.old ++ spec.arms_text arms.now) }
 {
     for arm in arms {
         push_between(text, "", &arm.0, ": ")?;
@@ -49,7 +52,8 @@ fn push_arms(text: &mut String, arms: &[(Expr, Expr)]) -> Result<(), NoMemory>
 #[cycle(exprs)]
 #[tactic(auto, using(crate::proofs::ExprSteps::expr_nodes))]
 pub fn push_expr(text: &mut String, expr: &Expr) -> Result<(), NoMemory>
-    ensures { OnOk result (string_bytes text.new ≡ string_bytes text.old ++ spec.expr_text expr.now) }
+    ensures { OnOk result (string_bytes text.new
+        ≡ string_bytes text.old ++ spec.expr_text expr.now) }
 {
     match expr {
         Expr::Column(column) => push_column(text, *column),

@@ -21,7 +21,8 @@ fn push_indent(text: &mut String, level: u64) -> Result<(), NoMemory>
 
 /// Appends the line of a plan's top node.
 fn push_line(text: &mut String, plan: &Plan, tables: &[Text], level: u64) -> Result<(), NoMemory>
-    ensures { OnOk result (string_bytes text.new ≡ string_bytes text.old ++ spec.line level (top_words tables.now plan.now)) }
+    ensures { OnOk result (string_bytes text.new
+        ≡ string_bytes text.old ++ spec.line level (top_words tables.now plan.now)) }
 {
     push_indent(text, level)?;
     push_words(text, plan, tables)?;
@@ -31,7 +32,8 @@ fn push_line(text: &mut String, plan: &Plan, tables: &[Text], level: u64) -> Res
 /// Appends the lines of some plans.
 #[cycle(lines)]
 fn push_all(text: &mut String, plans: &[Plan], tables: &[Text], level: u64) -> Result<(), NoMemory>
-    ensures { OnOk result (string_bytes text.new ≡ string_bytes text.old ++ spec.all_at (map (spec.lines_of tables.now) plans.now) level) }
+    ensures { OnOk result (string_bytes text.new
+        ≡ string_bytes text.old ++ spec.all_at (map (spec.lines_of tables.now) plans.now) level) }
 {
     for plan in plans {
         push_lines(text, plan, tables, level)?;
@@ -43,7 +45,8 @@ fn push_all(text: &mut String, plans: &[Plan], tables: &[Text], level: u64) -> R
 #[cycle(lines)]
 #[tactic(auto, using(crate::proofs::LineSteps::inputs))]
 fn push_inputs(text: &mut String, plan: &Plan, tables: &[Text], level: u64) -> Result<(), NoMemory>
-    ensures { OnOk result (string_bytes text.new ≡ string_bytes text.old ++ spec.input_lines tables.now plan.now level) }
+    ensures { OnOk result (string_bytes text.new
+        ≡ string_bytes text.old ++ spec.input_lines tables.now plan.now level) }
 {
     match plan {
         Plan::Scan {
@@ -90,7 +93,8 @@ fn push_inputs(text: &mut String, plan: &Plan, tables: &[Text], level: u64) -> R
 /// Appends the lines of a plan that stands at a level.
 #[cycle(lines)]
 fn push_lines(text: &mut String, plan: &Plan, tables: &[Text], level: u64) -> Result<(), NoMemory>
-    ensures { OnOk result (string_bytes text.new ≡ string_bytes text.old ++ spec.lines_of tables.now plan.now level) }
+    ensures { OnOk result (string_bytes text.new
+        ≡ string_bytes text.old ++ spec.lines_of tables.now plan.now level) }
 {
     push_line(text, plan, tables, level)?;
     match level.checked_add(1) {

@@ -12,7 +12,8 @@ use std::fmt::Write;
 
 /// Appends columns.
 pub fn push_columns(text: &mut String, columns: &[u32]) -> Result<(), NoMemory>
-    ensures { OnOk result (string_bytes text.new ≡ string_bytes text.old ++ spec.columns_text columns.now) }
+    ensures { OnOk result (string_bytes text.new
+        ≡ string_bytes text.old ++ spec.columns_text columns.now) }
 {
     text.push('[')?;
     let mut separator = "";
@@ -25,13 +26,15 @@ pub fn push_columns(text: &mut String, columns: &[u32]) -> Result<(), NoMemory>
 }
 
 fn push_named(text: &mut String, name: &str, column: u32) -> Result<(), NoMemory>
-    ensures { OnOk result (string_bytes text.new ≡ string_bytes text.old ++ call_of name.now (column_text column)) }
+    ensures { OnOk result (string_bytes text.new
+        ≡ string_bytes text.old ++ call_of name.now (column_text column)) }
 {
     Ok(write!(text, "{name}(#{column})")?)
 }
 
 fn push_call(text: &mut String, call: &AggCall) -> Result<(), NoMemory>
-    ensures { OnOk result (string_bytes text.new ≡ string_bytes text.old ++ spec.call_text call.now) }
+    ensures { OnOk result (string_bytes text.new
+        ≡ string_bytes text.old ++ spec.call_text call.now) }
 {
     match call {
         AggCall::CountAll => Ok(text.push_str("COUNT(*)")?),
@@ -45,7 +48,8 @@ fn push_call(text: &mut String, call: &AggCall) -> Result<(), NoMemory>
 
 /// Appends the calls of a grouping.
 pub fn push_calls(text: &mut String, calls: &[AggCall]) -> Result<(), NoMemory>
-    ensures { OnOk result (string_bytes text.new ≡ string_bytes text.old ++ bracketed (map spec.call_text calls.now)) }
+    ensures { OnOk result (string_bytes text.new
+        ≡ string_bytes text.old ++ bracketed (map spec.call_text calls.now)) }
 {
     text.push('[')?;
     let mut separator = "";
@@ -58,7 +62,8 @@ pub fn push_calls(text: &mut String, calls: &[AggCall]) -> Result<(), NoMemory>
 }
 
 fn push_direction(text: &mut String, descending: bool) -> Result<(), NoMemory>
-    ensures { OnOk result (string_bytes text.new ≡ string_bytes text.old ++ spec.direction_text descending) }
+    ensures { OnOk result (string_bytes text.new
+        ≡ string_bytes text.old ++ spec.direction_text descending) }
 {
     let direction = if descending { " DESC" } else { " ASC" };
     Ok(text.push_str(direction)?)
@@ -81,7 +86,8 @@ fn push_key(text: &mut String, key: &SortKey) -> Result<(), NoMemory>
 
 /// Appends the keys of an order.
 pub fn push_keys(text: &mut String, keys: &[SortKey]) -> Result<(), NoMemory>
-    ensures { OnOk result (string_bytes text.new ≡ string_bytes text.old ++ bracketed (map spec.key_text keys.now)) }
+    ensures { OnOk result (string_bytes text.new
+        ≡ string_bytes text.old ++ bracketed (map spec.key_text keys.now)) }
 {
     text.push('[')?;
     let mut separator = "";
@@ -102,7 +108,8 @@ fn push_pair(text: &mut String, pair: (u32, u32)) -> Result<(), NoMemory>
 
 /// Appends the keys of a join: a column of the left input and one of the right each.
 pub fn push_pairs(text: &mut String, pairs: &[(u32, u32)]) -> Result<(), NoMemory>
-    ensures { OnOk result (string_bytes text.new ≡ string_bytes text.old ++ bracketed (map spec.pair_text pairs.now)) }
+    ensures { OnOk result (string_bytes text.new
+        ≡ string_bytes text.old ++ bracketed (map spec.pair_text pairs.now)) }
 {
     text.push('[')?;
     let mut separator = "";

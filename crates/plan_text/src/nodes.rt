@@ -21,7 +21,9 @@ fn push_scan(
     partitions: u32,
     files: u32,
 ) -> Result<(), NoMemory>
-    ensures { OnOk result (string_bytes text.new ≡ string_bytes text.old ++ spec.scan_text (spec.name_of tables.now table) partitions files) }
+    ensures { OnOk result (string_bytes text.new
+        ≡ string_bytes text.old
+        ++ spec.scan_text (spec.name_of tables.now table) partitions files) }
 {
     text.push_str("Scan ")?;
     push_name(text, tables, table)?;
@@ -29,7 +31,8 @@ fn push_scan(
 }
 
 fn push_name(text: &mut String, tables: &[Text], table: u32) -> Result<(), NoMemory>
-    ensures { OnOk result (string_bytes text.new ≡ string_bytes text.old ++ spec.name_of tables.now table) }
+    ensures { OnOk result (string_bytes text.new
+        ≡ string_bytes text.old ++ spec.name_of tables.now table) }
 {
     match tables.get(table as usize) {
         Some(name) => Ok(text.push_str(name.as_str())?),
@@ -38,14 +41,16 @@ fn push_name(text: &mut String, tables: &[Text], table: u32) -> Result<(), NoMem
 }
 
 fn push_test(text: &mut String, test: &Expr) -> Result<(), NoMemory>
-    ensures { OnOk result (string_bytes text.new ≡ string_bytes text.old ++ (codes "Filter " ++ expr_text test.now)) }
+    ensures { OnOk result (string_bytes text.new
+        ≡ string_bytes text.old ++ (codes "Filter " ++ expr_text test.now)) }
 {
     text.push_str("Filter ")?;
     push_expr(text, test)
 }
 
 fn push_items(text: &mut String, items: &[Expr]) -> Result<(), NoMemory>
-    ensures { OnOk result (string_bytes text.new ≡ string_bytes text.old ++ (codes "Project " ++ bracketed (map expr_text items.now))) }
+    ensures { OnOk result (string_bytes text.new
+        ≡ string_bytes text.old ++ (codes "Project " ++ bracketed (map expr_text items.now))) }
 {
     text.push_str("Project [")?;
     push_exprs(text, items)?;
@@ -58,7 +63,8 @@ fn push_group(
     keys: &[u32],
     calls: &[AggCall],
 ) -> Result<(), NoMemory>
-    ensures { OnOk result (string_bytes text.new ≡ string_bytes text.old ++ (name.now ++ spec.group_text keys.now calls.now)) }
+    ensures { OnOk result (string_bytes text.new
+        ≡ string_bytes text.old ++ (name.now ++ spec.group_text keys.now calls.now)) }
 {
     text.push_str(name)?;
     text.push_str(" keys=")?;
@@ -80,7 +86,8 @@ fn push_join_kind(text: &mut String, kind: JoinKind) -> Result<(), NoMemory>
 }
 
 fn push_rest(text: &mut String, rest: &Option<Expr>) -> Result<(), NoMemory>
-    ensures { OnOk result (string_bytes text.new ≡ string_bytes text.old ++ spec.rest_text rest.now) }
+    ensures { OnOk result (string_bytes text.new
+        ≡ string_bytes text.old ++ spec.rest_text rest.now) }
 {
     match rest {
         Some(test) => push_expr(text, test),
@@ -94,7 +101,8 @@ fn push_join(
     keys: &[(u32, u32)],
     rest: &Option<Expr>,
 ) -> Result<(), NoMemory>
-    ensures { OnOk result (string_bytes text.new ≡ string_bytes text.old ++ spec.hash_join_text kind keys.now rest.now) }
+    ensures { OnOk result (string_bytes text.new
+        ≡ string_bytes text.old ++ spec.hash_join_text kind keys.now rest.now) }
 {
     text.push_str("HashJoin ")?;
     push_join_kind(text, kind)?;
@@ -105,14 +113,16 @@ fn push_join(
 }
 
 fn push_order(text: &mut String, name: &str, keys: &[SortKey]) -> Result<(), NoMemory>
-    ensures { OnOk result (string_bytes text.new ≡ string_bytes text.old ++ (name.now ++ bracketed (map spec.key_text keys.now))) }
+    ensures { OnOk result (string_bytes text.new
+        ≡ string_bytes text.old ++ (name.now ++ bracketed (map spec.key_text keys.now))) }
 {
     text.push_str(name)?;
     push_keys(text, keys)
 }
 
 fn push_hash(text: &mut String, columns: &[u32], count: u32) -> Result<(), NoMemory>
-    ensures { OnOk result (string_bytes text.new ≡ string_bytes text.old ++ spec.hash_text columns.now count) }
+    ensures { OnOk result (string_bytes text.new
+        ≡ string_bytes text.old ++ spec.hash_text columns.now count) }
 {
     text.push_str("Hash(")?;
     push_columns(text, columns)?;
@@ -120,7 +130,8 @@ fn push_hash(text: &mut String, columns: &[u32], count: u32) -> Result<(), NoMem
 }
 
 fn push_partitioning(text: &mut String, to: &Partitioning) -> Result<(), NoMemory>
-    ensures { OnOk result (string_bytes text.new ≡ string_bytes text.old ++ spec.partitioning_text to.now) }
+    ensures { OnOk result (string_bytes text.new
+        ≡ string_bytes text.old ++ spec.partitioning_text to.now) }
 {
     match to {
         Partitioning::Single => Ok(text.push_str("Single")?),
@@ -131,7 +142,8 @@ fn push_partitioning(text: &mut String, to: &Partitioning) -> Result<(), NoMemor
 }
 
 fn push_exchange(text: &mut String, to: &Partitioning) -> Result<(), NoMemory>
-    ensures { OnOk result (string_bytes text.new ≡ string_bytes text.old ++ (codes "Repartition " ++ spec.partitioning_text to.now)) }
+    ensures { OnOk result (string_bytes text.new
+        ≡ string_bytes text.old ++ (codes "Repartition " ++ spec.partitioning_text to.now)) }
 {
     text.push_str("Repartition ")?;
     push_partitioning(text, to)
@@ -147,7 +159,8 @@ fn push_fetch(text: &mut String, fetch: Option<u64>) -> Result<(), NoMemory>
 }
 
 fn push_limit(text: &mut String, skip: u64, fetch: Option<u64>) -> Result<(), NoMemory>
-    ensures { OnOk result (string_bytes text.new ≡ string_bytes text.old ++ spec.limit_text skip fetch) }
+    ensures { OnOk result (string_bytes text.new
+        ≡ string_bytes text.old ++ spec.limit_text skip fetch) }
 {
     write!(text, "Limit skip={skip}")?;
     text.push_str(" fetch=")?;
@@ -157,7 +170,8 @@ fn push_limit(text: &mut String, skip: u64, fetch: Option<u64>) -> Result<(), No
 /// Appends what a plan's top node is, without its inputs.
 #[tactic(auto, using(crate::proofs::NodeSteps::top_nodes))]
 pub fn push_words(text: &mut String, plan: &Plan, tables: &[Text]) -> Result<(), NoMemory>
-    ensures { OnOk result (string_bytes text.new ≡ string_bytes text.old ++ spec.top_words tables.now plan.now) }
+    ensures { OnOk result (string_bytes text.new
+        ≡ string_bytes text.old ++ spec.top_words tables.now plan.now) }
 {
     match plan {
         Plan::Scan {
