@@ -1,9 +1,3 @@
-pub mod Quotes
-pub mod Writes
-pub mod ListSteps
-pub mod ExprSteps
-pub mod NodeSteps
-pub mod LineSteps
 pub mod Ordered
 pub mod Listed
 pub mod TableSteps

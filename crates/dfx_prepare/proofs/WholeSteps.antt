@@ -3,26 +3,16 @@ use Rattle.std.proofs.Common.{◌≡◌, sym, ap, ◌∙◌, ℕ, List, length, 
 use Rattle.sql_grammar.specs.declared.ast.Script.{Script}
 use Rattle.dfx_prepare.specs.Outcomes.{OrMemory, Answers, IsReading, IsListing, IsQuerying, IsPreparing}
 use Rattle.dfx_prepare.specs.Preparing.{Path, followed, prepared_over, IsOf, IsOfScript}
-use Rattle.dfx_prepare.specs.declared.failure.Failure.{Failure}
-use Rattle.dfx_prepare.specs.declared.failure.Failure.TheVariants as failure
+use Rattle.failure_text.specs.declared.failure.Failure.{Failure}
+use Rattle.failure_text.specs.declared.failure.Failure.TheVariants as failure
 use Rattle.dfx_prepare.specs.declared.prepared.Prepared.{Prepared}
 use Rattle.dfx_prepare.proofs.TableSteps.{rose_since, refusal_ends}
 
 -- what is answered but for want of memory is answered
 pub memory_answers : {A : Type 0} (r e : Result A Failure) → OrMemory r e → Answers r e
 memory_answers (Ok v) e h = h
-memory_answers (Err failure.Words) e h = h
-memory_answers (Err (failure.Lexer r)) e h = h
-memory_answers (Err (failure.Syntax r)) e h = h
-memory_answers (Err (failure.Binder r)) e h = h
-memory_answers (Err failure.NotBuilt) e h = h
-memory_answers (Err (failure.TooManySources n)) e h = h
-memory_answers (Err (failure.Missing p)) e h = h
-memory_answers (Err (failure.BadFile p c)) e h = h
 memory_answers (Err failure.Read) e h = tt
-memory_answers (Err failure.Write) e h = h
-memory_answers (Err (failure.Evaluation v)) e h = h
-memory_answers (Err failure.NoMemory) e h = h
+memory_answers (Err f) e h = h
 
 -- nothing follows a refusal or want of memory
 pub memory_ends : {A B : Type 0} (f : Failure) (e : Result A Failure) (next : A → Result B Failure) → OrMemory {A = A} (Err f) e → Answers {A = B} (Err f) (followed e next)
@@ -40,46 +30,21 @@ if_ok_as P x (Err e) h is = tt
 -- ---- failures of the parts
 
 pub of_reading : (f : Failure) → IsReading f → IsPreparing f
-of_reading failure.Words h = absurd h
 of_reading (failure.Lexer r) h = h
 of_reading (failure.Syntax r) h = h
-of_reading (failure.Binder r) h = absurd h
-of_reading failure.NotBuilt h = absurd h
-of_reading (failure.TooManySources n) h = absurd h
-of_reading (failure.Missing p) h = absurd h
-of_reading (failure.BadFile p c) h = absurd h
-of_reading failure.Read h = absurd h
-of_reading failure.Write h = absurd h
-of_reading (failure.Evaluation v) h = absurd h
 of_reading failure.NoMemory h = h
+of_reading f h = absurd h
 
 pub of_listing : (f : Failure) → IsListing f → IsPreparing f
-of_listing failure.Words h = absurd h
 of_listing (failure.Lexer r) h = absurd h
 of_listing (failure.Syntax r) h = absurd h
 of_listing (failure.Binder r) h = absurd h
-of_listing failure.NotBuilt h = h
-of_listing (failure.TooManySources n) h = absurd h
-of_listing (failure.Missing p) h = h
-of_listing (failure.BadFile p c) h = absurd h
-of_listing failure.Read h = h
-of_listing failure.Write h = absurd h
-of_listing (failure.Evaluation v) h = absurd h
-of_listing failure.NoMemory h = h
+of_listing f h = h
 
 pub of_querying : (f : Failure) → IsQuerying f → IsPreparing f
-of_querying failure.Words h = absurd h
-of_querying (failure.Lexer r) h = absurd h
-of_querying (failure.Syntax r) h = absurd h
 of_querying (failure.Binder r) h = h
-of_querying failure.NotBuilt h = absurd h
-of_querying (failure.TooManySources n) h = absurd h
-of_querying (failure.Missing p) h = absurd h
-of_querying (failure.BadFile p c) h = absurd h
-of_querying failure.Read h = absurd h
-of_querying failure.Write h = absurd h
-of_querying (failure.Evaluation v) h = absurd h
 of_querying failure.NoMemory h = h
+of_querying f h = absurd h
 
 pub queried : {A : Type 0} (r : Result A Failure) → IfErr r IsQuerying → IfErr r IsPreparing
 queried (Ok x) h = tt
@@ -107,18 +72,8 @@ carries : {A : Type 0} (B : Type 0) (f g : Failure) (e : Result A Failure) → e
 carries B f g e is other = ap (carried B) (sym other ∙ is)
 
 pub same_refusal : {A : Type 0} (B : Type 0) (f g : Failure) (e : Result A Failure) → OrMemory {A = A} (Err f) e → e ≡ Err g → OrMemory {A = B} (Err f) (Err g)
-same_refusal B failure.Words g e h is = carries B failure.Words g e h is
-same_refusal B (failure.Lexer r) g e h is = carries B (failure.Lexer r) g e h is
-same_refusal B (failure.Syntax r) g e h is = carries B (failure.Syntax r) g e h is
-same_refusal B (failure.Binder r) g e h is = carries B (failure.Binder r) g e h is
-same_refusal B failure.NotBuilt g e h is = carries B failure.NotBuilt g e h is
-same_refusal B (failure.TooManySources n) g e h is = carries B (failure.TooManySources n) g e h is
-same_refusal B (failure.Missing p) g e h is = carries B (failure.Missing p) g e h is
-same_refusal B (failure.BadFile p c) g e h is = carries B (failure.BadFile p c) g e h is
-same_refusal B failure.Read g e h is = carries B failure.Read g e h is
-same_refusal B failure.Write g e h is = carries B failure.Write g e h is
-same_refusal B (failure.Evaluation v) g e h is = carries B (failure.Evaluation v) g e h is
 same_refusal B failure.NoMemory g e h is = tt
+same_refusal B f g e h is = carries B f g e h is
 
 -- a script isn't refused
 pub no_refusal : {A B : Type 0} (x : A) (g : Failure) (e : Result A Failure) (r : Result B Failure) → e ≡ Ok x → e ≡ Err g → OrMemory r (Err g)

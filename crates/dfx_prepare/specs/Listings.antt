@@ -12,7 +12,8 @@ is_before path other = is_lt (slice_cmp nat_cmp path other)
 -- a path in its place among paths that stand in order
 abbrev pub put_in : List ℕ → List (List ℕ) → List (List ℕ)
 put_in path [] = path ∷ []
-put_in path (other ∷ more) = if is_before other path then other ∷ put_in path more else path ∷ other ∷ more
+put_in path (other ∷ more) =
+    if is_before other path then other ∷ put_in path more else path ∷ other ∷ more
 
 -- paths in the order of their bytes
 abbrev pub in_order : List (List ℕ) → List (List ℕ)

@@ -6,8 +6,8 @@ use Rattle.sql_grammar.specs.declared.refused.SyntaxRefused.{SyntaxRefused}
 use Rattle.sql_grammar.specs.declared.refused.SyntaxRefused.TheVariants as syntax
 use Rattle.sql_binder.specs.declared.refused.BindRefused.{BindRefused}
 use Rattle.sql_binder.specs.declared.refused.BindRefused.TheVariants as binder
-use Rattle.dfx_prepare.specs.declared.failure.Failure.{Failure}
-use Rattle.dfx_prepare.specs.declared.failure.Failure.TheVariants as failure
+use Rattle.failure_text.specs.declared.failure.Failure.{Failure}
+use Rattle.failure_text.specs.declared.failure.Failure.TheVariants as failure
 
 -- this is answered, or want of memory
 abbrev pub OrMemory : {A : Type 0} → Result A Failure → Result A Failure → Type 0
@@ -42,15 +42,7 @@ abbrev pub IsReading : Failure → Type 0
 IsReading (failure.Lexer refused) = IsLexed refused
 IsReading (failure.Syntax refused) = IsSyntax refused
 IsReading failure.NoMemory = ⊤
-IsReading failure.Words = ⊥
-IsReading (failure.Binder refused) = ⊥
-IsReading failure.NotBuilt = ⊥
-IsReading (failure.TooManySources sources) = ⊥
-IsReading (failure.Missing path) = ⊥
-IsReading (failure.BadFile path cause) = ⊥
-IsReading failure.Read = ⊥
-IsReading failure.Write = ⊥
-IsReading (failure.Evaluation fault) = ⊥
+IsReading f = ⊥
 
 -- a table's files aren't there or aren't read, files failed, or there was no memory
 abbrev pub IsListing : Failure → Type 0
@@ -58,41 +50,17 @@ IsListing failure.NotBuilt = ⊤
 IsListing (failure.Missing path) = ⊤
 IsListing failure.Read = ⊤
 IsListing failure.NoMemory = ⊤
-IsListing failure.Words = ⊥
-IsListing (failure.Lexer refused) = ⊥
-IsListing (failure.Syntax refused) = ⊥
-IsListing (failure.Binder refused) = ⊥
-IsListing (failure.TooManySources sources) = ⊥
-IsListing (failure.BadFile path cause) = ⊥
-IsListing failure.Write = ⊥
-IsListing (failure.Evaluation fault) = ⊥
+IsListing f = ⊥
 
 -- a script has no query over its tables, or there was no memory
 abbrev pub IsQuerying : Failure → Type 0
 IsQuerying (failure.Binder refused) = IsBinding refused
 IsQuerying failure.NoMemory = ⊤
-IsQuerying failure.Words = ⊥
-IsQuerying (failure.Lexer refused) = ⊥
-IsQuerying (failure.Syntax refused) = ⊥
-IsQuerying failure.NotBuilt = ⊥
-IsQuerying (failure.TooManySources sources) = ⊥
-IsQuerying (failure.Missing path) = ⊥
-IsQuerying (failure.BadFile path cause) = ⊥
-IsQuerying failure.Read = ⊥
-IsQuerying failure.Write = ⊥
-IsQuerying (failure.Evaluation fault) = ⊥
+IsQuerying f = ⊥
 
 -- one of these: a text, a table or a query is refused, files failed, or there was no memory
 abbrev pub IsPreparing : Failure → Type 0
+IsPreparing (failure.Binder refused) = IsBinding refused
 IsPreparing (failure.Lexer refused) = IsLexed refused
 IsPreparing (failure.Syntax refused) = IsSyntax refused
-IsPreparing failure.NotBuilt = ⊤
-IsPreparing (failure.Missing path) = ⊤
-IsPreparing failure.Read = ⊤
-IsPreparing (failure.Binder refused) = IsBinding refused
-IsPreparing failure.NoMemory = ⊤
-IsPreparing failure.Words = ⊥
-IsPreparing (failure.TooManySources sources) = ⊥
-IsPreparing (failure.BadFile path cause) = ⊥
-IsPreparing failure.Write = ⊥
-IsPreparing (failure.Evaluation fault) = ⊥
+IsPreparing f = IsListing f

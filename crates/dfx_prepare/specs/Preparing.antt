@@ -1,6 +1,7 @@
--- Meaning: what the text of a script is prepared to over files of these contents, for n partitions, or its first refusal: its tokens,
--- its grammar, its tables in the order of their statements, and its names and kinds.
-use Rattle.std.specs.Prelude.{ℕ, ◌≡◌, ◌++◌, Bool, List, [], ◌∷◌, map, filter, length, Result, Ok, Err, if◌then◌else◌}
+-- Meaning: what the text of a script is prepared to over files of these contents, for n partitions,
+-- or its first refusal: its tokens, its grammar, its tables in the order of their statements, and
+-- its names and kinds.
+use Rattle.std.specs.Prelude.{ℕ, ◌≡◌, Bool, List, [], ◌∷◌, map, filter, length, Result, Ok, Err, if◌then◌else◌}
 use Rattle.dfx_outside.specs.Contents.{Contents, has_folder}
 use Rattle.sql_lexer.specs.Tokens.{Tokens}
 use Rattle.sql_lexer.specs.declared.token.Token.{Token}
@@ -19,8 +20,8 @@ use Rattle.physical_build.specs.Build.{build}
 use Rattle.enforce_dist.specs.Distribute.{enforce_distribution}
 use Rattle.enforce_sort.specs.Arrange.{enforce_sorting}
 use Rattle.dfx_prepare.specs.Listings.{listing, is_folder, is_csv}
-use Rattle.dfx_prepare.specs.declared.failure.Failure.{Failure}
-use Rattle.dfx_prepare.specs.declared.failure.Failure.TheVariants as failure
+use Rattle.failure_text.specs.declared.failure.Failure.{Failure}
+use Rattle.failure_text.specs.declared.failure.Failure.TheVariants as failure
 use Rattle.dfx_prepare.specs.declared.prepared.Prepared.{Prepared}
 
 abbrev pub Path : Type 0
@@ -40,29 +41,31 @@ script_of text = of_tokens text (Tokens text)
 
 -- the files of a folder of CSV files
 abbrev pub folder_files : Contents → Path → Result (List Path) Failure
-folder_files all folder = if has_folder all folder then Ok (filter is_csv (listing all folder)) else Err (failure.Missing folder)
+folder_files all folder =
+    if has_folder all folder then Ok (filter is_csv (listing all folder))
+    else Err (failure.Missing folder)
 
 -- the files of a table; those of a folder are looked up, a single one isn't
 abbrev pub table_files : Contents → TableAst → Result (List Path) Failure
-table_files all t = if t.arrow then Err failure.NotBuilt else (if is_folder t.location then folder_files all t.location else Ok (t.location ∷ []))
+table_files all t =
+    if t.arrow then Err failure.NotBuilt
+    else (if is_folder t.location then folder_files all t.location else Ok (t.location ∷ []))
 
 -- what follows an answer; a refusal is the last word
 abbrev pub followed : {A B : Type 0} → Result A Failure → (A → Result B Failure) → Result B Failure
 followed (Ok x) next = next x
 followed (Err refusal) next = Err refusal
 
--- the files of each table behind those of the tables before, to the first refusal
-abbrev pub files_behind : Contents → List (List Path) → List TableAst → Result (List (List Path)) Failure
-files_behind all found [] = Ok found
-files_behind all found (t ∷ ts) = followed (table_files all t) (λ paths. files_behind all (found ++ paths ∷ []) ts)
-
--- the files of each table
+-- the files of each table, or the first refusal
 abbrev pub files_of : Contents → List TableAst → Result (List (List Path)) Failure
-files_of all tables = files_behind all [] tables
+files_of all [] = Ok []
+files_of all (t ∷ ts) =
+    followed (table_files all t) (λ paths. followed (files_of all ts) (λ more. Ok (paths ∷ more)))
 
 -- a table as its statement declares it
 abbrev pub schema_of : TableAst → Schema
-schema_of t = record { table = t.name; names = map (λ c. c.0) t.columns; kinds = map (λ c. c.1) t.columns }
+schema_of t =
+    record { table = t.name; names = map (λ c. c.0) t.columns; kinds = map (λ c. c.1) t.columns }
 
 abbrev pub of_bound : Answer Query → Result Query Failure
 of_bound (Ok q) = Ok q
@@ -84,11 +87,18 @@ are_arrow tables = map (λ t. t.arrow) tables
 
 -- a query over these files of the tables
 abbrev pub with_files : List TableAst → ℕ → List (List Path) → Query → Prepared
-with_files tables n paths q = record { query = q; plan = plan_of q (map length paths) n; tables = table_names tables; paths = paths; arrow = are_arrow tables }
+with_files tables n paths q = record {
+  query = q;
+  plan = plan_of q (map length paths) n;
+  tables = table_names tables;
+  paths = paths;
+  arrow = are_arrow tables;
+}
 
 -- what a script is prepared to over these files of its tables
 abbrev pub prepared_over : Script → ℕ → List (List Path) → Result Prepared Failure
-prepared_over script n paths = followed (query_of script) (λ q. Ok (with_files script.tables n paths q))
+prepared_over script n paths =
+    followed (query_of script) (λ q. Ok (with_files script.tables n paths q))
 
 -- what a script is prepared to
 abbrev pub prepared_script : Contents → ℕ → Script → Result Prepared Failure

@@ -8,17 +8,17 @@ ghost use Rattle.sql_grammar.specs.Parsed.{parsed};
 ghost use Rattle.planned_laws.specs.Planned.{IsPlanned};
 ghost use Rattle.dfx_prepare.specs.Outcomes.{Answers, IsPreparing, IsQuerying, IsReading, OrMemory};
 ghost use Rattle.dfx_prepare.specs.Preparing as spec;
-ghost use Rattle.dfx_prepare.specs.declared.failure.Failure.{Failure as Refusal};
-ghost use Rattle.dfx_prepare.specs.declared.failure.Failure.TheVariants as failure;
+ghost use Rattle.failure_text.specs.declared.failure.Failure.{Failure as Refusal};
+ghost use Rattle.failure_text.specs.declared.failure.Failure.TheVariants as failure;
 
 use crate::declared::{are_arrow, counts_of, schemas_of, table_names};
-use crate::failure::Failure;
 use crate::prepared::Prepared;
 use crate::tables::files_of;
 use dfx_outside::Files;
 use dfx_value::{NoMemory, Seq, Text};
 use enforce_dist::enforce_distribution;
 use enforce_sort::enforce_sorting;
+use failure_text::Failure;
 use logical_plan::Query;
 use physical_build::build;
 use physical_plan::Plan;
@@ -97,7 +97,8 @@ fn planned_query(
     files: &[u32],
     n: u32,
 ) -> Result<(Query, Plan), Failure>
-    ensures found { OrMemory result (spec.followed (spec.query_of script.now) (λ q. Ok (q, spec.plan_of q files.now n))) }
+    ensures found { OrMemory result
+        (spec.followed (spec.query_of script.now) (λ q. Ok (q, spec.plan_of q files.now n))) }
     ensures planned { IfOk result (λ p. IsPlanned p.0 files.now p.1 n) }
     ensures querying { IfErr result IsQuerying }
 {
@@ -138,14 +139,17 @@ fn prepare_script<F: Files>(
     files: &mut F,
     n: u32,
 ) -> Result<Prepared, Failure>
-    ensures prepared { (all : Contents) → F.told files.old ≡ Some all → Answers result (spec.prepared_script all n script.now) }
+    ensures prepared { (all : Contents) → F.told files.old ≡ Some all
+        → Answers result (spec.prepared_script all n script.now) }
     ensures whole { IfOk result (λ p. spec.IsOf script.now n p) }
     ensures planned { IfOk result (λ p. IsPlanned p.query (map length p.paths) p.plan n) }
     ensures same { F.told files.new ≡ F.told files.old }
-    ensures later { (F.faults files.old ≤ F.faults files.new) × (F.absences files.old ≤ F.absences files.new) }
+    ensures later { (F.faults files.old ≤ F.faults files.new)
+        × (F.absences files.old ≤ F.absences files.new) }
 
     ensures read { result ≡ Err failure.Read → Rose (F.faults files.old) (F.faults files.new) }
-    ensures missing { (p : List ℕ) → result ≡ Err (failure.Missing p) → Rose (F.absences files.old) (F.absences files.new) }
+    ensures missing { (p : List ℕ) → result ≡ Err (failure.Missing p)
+        → Rose (F.absences files.old) (F.absences files.new) }
     ensures preparing { IfErr result IsPreparing }
 {
     let paths = files_of(alloc, files, script.tables.as_slice())?;
@@ -164,18 +168,22 @@ pub fn prepare<F: Files>(
     partitions: u32,
 ) -> Result<Prepared, Failure>
     // Where the files are told, this is answered, or a file failed, or there was no memory.
-    ensures prepared { (all : Contents) → F.told files.old ≡ Some all → Answers result (spec.prepared script.now all partitions) }
+    ensures prepared { (all : Contents) → F.told files.old ≡ Some all
+        → Answers result (spec.prepared script.now all partitions) }
 
     // Told or not, a text that spells no script is refused so, and what is prepared is the script's.
-    ensures script { (refusal : Refusal) → spec.script_of script.now ≡ Err refusal → OrMemory result (Err refusal) }
+    ensures script { (refusal : Refusal) → spec.script_of script.now ≡ Err refusal
+        → OrMemory result (Err refusal) }
     ensures whole { IfOk result (λ p. spec.IsOfText script.now partitions p) }
     ensures planned { IfOk result (λ p. IsPlanned p.query (map length p.paths) p.plan partitions) }
 
     // The files stay, and their counts tell of absences and faults.
     ensures same { F.told files.new ≡ F.told files.old }
-    ensures later { (F.faults files.old ≤ F.faults files.new) × (F.absences files.old ≤ F.absences files.new) }
+    ensures later { (F.faults files.old ≤ F.faults files.new)
+        × (F.absences files.old ≤ F.absences files.new) }
     ensures read { result ≡ Err failure.Read → Rose (F.faults files.old) (F.faults files.new) }
-    ensures missing { (p : List ℕ) → result ≡ Err (failure.Missing p) → Rose (F.absences files.old) (F.absences files.new) }
+    ensures missing { (p : List ℕ) → result ≡ Err (failure.Missing p)
+        → Rose (F.absences files.old) (F.absences files.new) }
 
     // No other failure comes of preparing.
     ensures preparing { IfErr result IsPreparing }

@@ -6,11 +6,11 @@ ghost use Rattle.dfx_outside.specs.Contents.{Contents};
 ghost use Rattle.dfx_prepare.specs.Listings as named;
 ghost use Rattle.dfx_prepare.specs.Outcomes.{Answers, IsListing};
 ghost use Rattle.dfx_prepare.specs.Preparing as spec;
-ghost use Rattle.dfx_prepare.specs.declared.failure.Failure.TheVariants as failure;
+ghost use Rattle.failure_text.specs.declared.failure.Failure.TheVariants as failure;
 
-use crate::failure::Failure;
 use dfx_outside::{Files, FilesRefused};
 use dfx_value::{NoMemory, Seq, Text};
+use failure_text::Failure;
 use sql_grammar::ast::TableAst;
 use std::alloc::Global;
 
@@ -35,12 +35,15 @@ fn keep_csv(paths: &mut Vec<Text>)
 /// The files of a folder's table.
 
 fn folder_files<F: Files>(alloc: Global, files: &mut F, folder: &Text) -> Result<Seq<Text>, Failure>
-    ensures found { (all : Contents) → F.told files.old ≡ Some all → Answers result (spec.folder_files all folder.now) }
+    ensures found { (all : Contents) → F.told files.old ≡ Some all
+        → Answers result (spec.folder_files all folder.now) }
     ensures same { F.told files.new ≡ F.told files.old }
-    ensures later { (F.faults files.old ≤ F.faults files.new) × (F.absences files.old ≤ F.absences files.new) }
+    ensures later { (F.faults files.old ≤ F.faults files.new)
+        × (F.absences files.old ≤ F.absences files.new) }
 
     ensures read { result ≡ Err failure.Read → Rose (F.faults files.old) (F.faults files.new) }
-    ensures missing { (p : List ℕ) → result ≡ Err (failure.Missing p) → Rose (F.absences files.old) (F.absences files.new) }
+    ensures missing { (p : List ℕ) → result ≡ Err (failure.Missing p)
+        → Rose (F.absences files.old) (F.absences files.new) }
     ensures listing { IfErr result IsListing }
 {
     match files.list(folder) {
@@ -71,12 +74,15 @@ fn table_files<F: Files>(
     files: &mut F,
     table: &TableAst,
 ) -> Result<Seq<Text>, Failure>
-    ensures found { (all : Contents) → F.told files.old ≡ Some all → Answers result (spec.table_files all table.now) }
+    ensures found { (all : Contents) → F.told files.old ≡ Some all
+        → Answers result (spec.table_files all table.now) }
     ensures same { F.told files.new ≡ F.told files.old }
-    ensures later { (F.faults files.old ≤ F.faults files.new) × (F.absences files.old ≤ F.absences files.new) }
+    ensures later { (F.faults files.old ≤ F.faults files.new)
+        × (F.absences files.old ≤ F.absences files.new) }
 
     ensures read { result ≡ Err failure.Read → Rose (F.faults files.old) (F.faults files.new) }
-    ensures missing { (p : List ℕ) → result ≡ Err (failure.Missing p) → Rose (F.absences files.old) (F.absences files.new) }
+    ensures missing { (p : List ℕ) → result ≡ Err (failure.Missing p)
+        → Rose (F.absences files.old) (F.absences files.new) }
     ensures listing { IfErr result IsListing }
 {
     if table.arrow {
@@ -96,13 +102,16 @@ pub fn files_of<F: Files>(
     files: &mut F,
     tables: &[TableAst],
 ) -> Result<Seq<Seq<Text>>, Failure>
-    ensures found { (all : Contents) → F.told files.old ≡ Some all → Answers result (spec.files_of all tables.now) }
+    ensures found { (all : Contents) → F.told files.old ≡ Some all
+        → Answers result (spec.files_of all tables.now) }
     ensures each { IfOk result (λ paths. length paths ≡ length tables.now) }
     ensures same { F.told files.new ≡ F.told files.old }
-    ensures later { (F.faults files.old ≤ F.faults files.new) × (F.absences files.old ≤ F.absences files.new) }
+    ensures later { (F.faults files.old ≤ F.faults files.new)
+        × (F.absences files.old ≤ F.absences files.new) }
 
     ensures read { result ≡ Err failure.Read → Rose (F.faults files.old) (F.faults files.new) }
-    ensures missing { (p : List ℕ) → result ≡ Err (failure.Missing p) → Rose (F.absences files.old) (F.absences files.new) }
+    ensures missing { (p : List ℕ) → result ≡ Err (failure.Missing p)
+        → Rose (F.absences files.old) (F.absences files.new) }
     ensures listing { IfErr result IsListing }
 {
     let mut found = Vec::new(alloc);

@@ -6,15 +6,15 @@ use Rattle.std.specs.Result.{OnOk, OnErr, IfErr}
 use Rattle.dfx_outside.specs.Bytes.{EndsInFront}
 use Rattle.dfx_outside.specs.Contents.{Contents, content}
 use Rattle.dfx_value.specs.declared.fault.ItemFault.{ItemFault}
-use Rattle.dfx_prepare.specs.Preparing.{Path, followed}
-use Rattle.dfx_prepare.specs.Outcomes.{Answers, IsPreparing}
-use Rattle.dfx_prepare.specs.declared.failure.Failure.{Failure}
-use Rattle.dfx_prepare.specs.declared.failure.Failure.TheVariants as failure
+use Rattle.dfx_prepare.specs.Preparing.{Path, followed, script_of}
+use Rattle.dfx_prepare.specs.Outcomes.{Answers, OrMemory, IsPreparing}
+use Rattle.failure_text.specs.declared.failure.Failure.{Failure}
+use Rattle.failure_text.specs.declared.failure.Failure.TheVariants as failure
 use Rattle.dfx_prepare.specs.declared.prepared.Prepared.{Prepared}
-use Rattle.dfx_top.specs.Answers.{EndedQuery, EndedExplain, text_of}
-use Rattle.dfx_top.specs.Asked.{Ready, ready, by_script, by_text, by_words, asked}
+use Rattle.dfx_top.specs.Answers.{EndedQuery, EndedExplain, EndedOf, Partly, text_of}
+use Rattle.dfx_top.specs.Asked.{Ready, ready, by_script, by_text, by_words, by_asked, asked, not_run, text_at, script_text}
 use Rattle.dfx_top.specs.Words.{request_of, Asked as Wanted}
-use Rattle.dfx_top.specs.Outcomes.{IsCalledFor, IsMet, IsDone, IsWriting, IsOpening, of_result}
+use Rattle.dfx_top.specs.Outcomes.{IsCalledFor, IsMet, IsDone, IsWriting, IsOpening, IsTextRefused, of_result}
 use Rattle.dfx_outside.specs.Causes.{Rose}
 use Rattle.dfx_top.specs.Told.{Told, ToldQuery, Quiet}
 use Rattle.dfx_top.proofs.FaultSteps.{rose_since}
@@ -59,30 +59,12 @@ module _ (all : Contents) (before : List ℕ) (now : Option (List ℕ)) (quiet :
   called_writing : (f : Failure) → IsWriting f → IsCalledFor None (Some f)
   called_writing failure.Write w = tt
   called_writing failure.NoMemory w = tt
-  called_writing failure.Words w = absurd w
-  called_writing (failure.Lexer e) w = absurd w
-  called_writing (failure.Syntax e) w = absurd w
-  called_writing (failure.Binder e) w = absurd w
-  called_writing failure.NotBuilt w = absurd w
-  called_writing (failure.TooManySources n) w = absurd w
-  called_writing (failure.Missing q) w = absurd w
-  called_writing (failure.BadFile q c) w = absurd w
-  called_writing failure.Read w = absurd w
-  called_writing (failure.Evaluation e) w = absurd w
+  called_writing f w = absurd w
 
   done_writing : (f : Failure) → IsWriting f → (f ≡ failure.Write → ¬ quiet) → quiet → IsDone (Some f)
   done_writing failure.Write w loud q = absurd (loud refl q)
   done_writing failure.NoMemory w loud q = tt
-  done_writing failure.Words w loud q = absurd w
-  done_writing (failure.Lexer e) w loud q = absurd w
-  done_writing (failure.Syntax e) w loud q = absurd w
-  done_writing (failure.Binder e) w loud q = absurd w
-  done_writing failure.NotBuilt w loud q = absurd w
-  done_writing (failure.TooManySources n) w loud q = absurd w
-  done_writing (failure.Missing p) w loud q = absurd w
-  done_writing (failure.BadFile p c) w loud q = absurd w
-  done_writing failure.Read w loud q = absurd w
-  done_writing (failure.Evaluation e) w loud q = absurd w
+  done_writing f w loud q = absurd w
 
   told_of_explain : (n : ℕ) (p : Prepared) (f : Option Failure) → EndedExplain before p now f → IsCalledFor None f → (quiet → IsDone f) → Told all before (Ok (request.Explain n, p)) now quiet f
   told_of_explain n p f h called done = record {
@@ -147,11 +129,7 @@ module _ (all : Contents) (before : List ℕ) (now : Option (List ℕ)) (quiet :
   told_unprepared r o (failure.Binder e) h a is loud = refused_by r o (failure.Binder e) h refl a
   told_unprepared r o failure.NotBuilt h a is loud = refused_by r o failure.NotBuilt h refl a
   told_unprepared r o (failure.Missing q) h a is loud = refused_by r o (failure.Missing q) h refl a
-  told_unprepared r o failure.Words h a is loud = absurd is
-  told_unprepared r o (failure.TooManySources n) h a is loud = absurd is
-  told_unprepared r o (failure.BadFile q c) h a is loud = absurd is
-  told_unprepared r o failure.Write h a is loud = absurd is
-  told_unprepared r o (failure.Evaluation e) h a is loud = absurd is
+  told_unprepared r o f h a is loud = absurd is
 
   -- a script that isn't read
   unread : (r : Request) (path : Path) (q : Path) → now ≡ Some before → q ≡ path → content all path ≡ None → Told all before (by_text all r path (content all path)) now quiet (Some (failure.Missing q))
@@ -164,15 +142,7 @@ module _ (all : Contents) (before : List ℕ) (now : Option (List ℕ)) (quiet :
   told_unread r path (failure.Missing q) h is same absent loud = unread r path q h (same q refl) (absent q refl)
   told_unread r path failure.Read h is same absent loud = told_read (by_text all r path (content all path)) h (loud refl)
   told_unread r path failure.NoMemory h is same absent loud = told_memory (by_text all r path (content all path)) h
-  told_unread r path failure.Words h is same absent loud = absurd is
-  told_unread r path (failure.Lexer e) h is same absent loud = absurd is
-  told_unread r path (failure.Syntax e) h is same absent loud = absurd is
-  told_unread r path (failure.Binder e) h is same absent loud = absurd is
-  told_unread r path failure.NotBuilt h is same absent loud = absurd is
-  told_unread r path (failure.TooManySources n) h is same absent loud = absurd is
-  told_unread r path (failure.BadFile q c) h is same absent loud = absurd is
-  told_unread r path failure.Write h is same absent loud = absurd is
-  told_unread r path (failure.Evaluation e) h is same absent loud = absurd is
+  told_unread r path f h is same absent loud = absurd is
 
 -- what is told holds of a longer time too
 pub told_longer : (all : Contents) (before : List ℕ) (o : Result Ready Failure) (now : Option (List ℕ)) (quiet long : Type 0) (f : Option Failure) → (long → quiet) → Told all before o now quiet f → Told all before o now long f
@@ -220,10 +190,57 @@ exact_of called failure.Write refusal quiet c e read write q = absurd (write ref
 exact_of called failure.NoMemory refusal quiet c e read write q = inr refl
 exact_of called (failure.BadFile p cause) refusal quiet c e read write q = (let z : None ≡ Some refusal = sym c ∙ e in cc)
 exact_of called (failure.Evaluation fault) refusal quiet c e read write q = (let z : None ≡ Some refusal = sym c ∙ e in cc)
-exact_of called failure.Words refusal quiet c e read write q = inl (c ∙ e)
-exact_of called (failure.Lexer r) refusal quiet c e read write q = inl (c ∙ e)
-exact_of called (failure.Syntax r) refusal quiet c e read write q = inl (c ∙ e)
-exact_of called (failure.Binder r) refusal quiet c e read write q = inl (c ∙ e)
-exact_of called failure.NotBuilt refusal quiet c e read write q = inl (c ∙ e)
-exact_of called (failure.TooManySources n) refusal quiet c e read write q = inl (c ∙ e)
-exact_of called (failure.Missing p) refusal quiet c e read write q = inl (c ∙ e)
+exact_of called f refusal quiet c e read write q = inl (c ∙ e)
+
+-- ---- what is written where a refusal is called for
+
+unwritten_part : (all : Contents) (before : List ℕ) (p : Prepared) (now : Option (List ℕ)) (refusal : Failure)
+    → Partly all before p now → not_run all p ≡ Some refusal → now ≡ Some before
+unwritten_part all before p now refusal (inl same) e = same
+unwritten_part all before p now refusal (inr begun) e = (let z : Some refusal ≡ None = sym e ∙ begun.0 in cc)
+
+unwritten_query : (all : Contents) (before : List ℕ) (p : Prepared) (now : Option (List ℕ)) (f : Option Failure) (refusal : Failure)
+    → EndedQuery all before p now f → IsCalledFor (not_run all p) f → not_run all p ≡ Some refusal → now ≡ Some before
+unwritten_query all before p now None refusal h called e = (let z : None ≡ Some refusal = called ∙ e in cc)
+unwritten_query all before p now (Some (failure.BadFile path cause)) refusal h called e = (let z : Some refusal ≡ None = sym e ∙ called in cc)
+unwritten_query all before p now (Some (failure.Evaluation fault)) refusal h called e = (let z : Some refusal ≡ None = sym e ∙ called in cc)
+unwritten_query all before p now (Some failure.Read) refusal h called e = unwritten_part all before p now refusal h e
+unwritten_query all before p now (Some failure.Write) refusal h called e = unwritten_part all before p now refusal h e
+unwritten_query all before p now (Some failure.NoMemory) refusal h called e = unwritten_part all before p now refusal h e
+unwritten_query all before p now (Some f) refusal h called e = h
+
+pub unwritten : (all : Contents) (before : List ℕ) (o : Result Ready Failure) (now : Option (List ℕ)) (f : Option Failure) (refusal : Failure)
+    → EndedOf all before o now f → IsCalledFor (by_asked all o) f → by_asked all o ≡ Some refusal → now ≡ Some before
+unwritten all before (Err g) now f refusal h called e = h
+unwritten all before (Ok (request.Query, p)) now f refusal h called e = unwritten_query all before p now f refusal h called e
+unwritten all before (Ok (request.Explain n, p)) now f refusal h called e = (let z : Some refusal ≡ None = sym e in cc)
+
+-- ---- a text that is refused
+
+-- what preparing answers of it
+pub text_unprepared : (f refusal : Failure) → OrMemory {A = Prepared} (Err f) (Err refusal) → IsTextRefused refusal (Some f)
+text_unprepared failure.Read refusal h = tt
+text_unprepared failure.NoMemory refusal h = tt
+text_unprepared f refusal h = sym (ap of_result h)
+
+-- its script's file failed, or there was no memory
+pub text_unread : (all : Contents) (path text : List ℕ) (f refusal : Failure) → IsOpening f
+    → ((q : Path) → f ≡ failure.Missing q → content all path ≡ None) → content all path ≡ Some text → IsTextRefused refusal (Some f)
+text_unread all path text failure.Read refusal is absent there = tt
+text_unread all path text failure.NoMemory refusal is absent there = tt
+text_unread all path text (failure.Missing q) refusal is absent there = (let z : None ≡ Some text = sym (absent q refl) ∙ there in cc)
+text_unread all path text f refusal is absent there = absurd is
+
+-- the words name its script
+pub named_text : (all : Contents) (words : List (List ℕ)) (r : Request) (path text : List ℕ) → request_of words ≡ Some (r, path)
+    → script_text words all ≡ Some text → content all path ≡ Some text
+named_text all words r path text e h = sym (ap (text_at all) e) ∙ h
+
+-- what was read is the text
+pub same_text : (all : Contents) (path text bytes : List ℕ) (refusal : Failure) → content all path ≡ Some bytes → content all path ≡ Some text
+    → script_of text ≡ Err refusal → script_of bytes ≡ Err refusal
+same_text all path text bytes refusal r t is = (let z : Some bytes ≡ Some text = sym r ∙ t in let y : bytes ≡ text = cc in ap script_of y ∙ is)
+
+-- refused words name none
+pub unnamed_text : (all : Contents) (words : List (List ℕ)) (text : List ℕ) → request_of words ≡ None → script_text words all ≡ Some text → ⊥
+unnamed_text all words text e h = (let z : None ≡ Some text = sym (ap (text_at all) e) ∙ h in cc)

@@ -7,8 +7,8 @@ use Rattle.dfx_outside.specs.Contents.{Contents}
 use Rattle.dfx_value.specs.declared.fault.ItemFault.{ItemFault}
 use Rattle.logical_plan.specs.Body.{Tables, all_faults}
 use Rattle.dfx_prepare.specs.Preparing.{Path}
-use Rattle.dfx_prepare.specs.declared.failure.Failure.{Failure}
-use Rattle.dfx_prepare.specs.declared.failure.Failure.TheVariants as failure
+use Rattle.failure_text.specs.declared.failure.Failure.{Failure}
+use Rattle.failure_text.specs.declared.failure.Failure.TheVariants as failure
 use Rattle.dfx_prepare.specs.declared.prepared.Prepared.{Prepared}
 use Rattle.scan_run.specs.Chains.{Scanned, scanned, is_chain, is_there}
 use Rattle.scan_run.specs.Sources.{missing}
@@ -48,7 +48,10 @@ module _ (all : Contents) (before : List ℕ) (p : Prepared) (s : Scanned) (now 
   run = run_of all before p s
 
   partly : Began run now → Partly all before p now
-  partly b = inr (s, (is, b))
+  partly b = by_opening b.opened where
+    by_opening : (now ≡ Some before) ⊎ (missing all (scan_paths p) ≡ None) → Partly all before p now
+    by_opening (inl same) = inl same
+    by_opening (inr there) = inr (not_run-built all p None built few there, (s, (is, b)))
 
   -- a refused run, by its refusal
   pub ended_err : (A : Type 0) (e : RunRefused) (f : Failure) → Ran {A = A} run now (Err e) → Began run now → FailureOf (scan_paths p) e f → EndedQuery all before p now (Some f)
@@ -85,11 +88,7 @@ met_err A paths table met refused.NoMemory f m h = subst (λ (x : Failure). IsMe
 -- a run that is refused for want of memory alone is done
 pub done_err : (A : Type 0) (paths : List Path) (e : RunRefused) (f : Failure) → IsOkOrMemory {A = A} (Err e) → FailureOf paths e f → IsDone (Some f)
 done_err A paths refused.NoMemory f d h = subst (λ (x : Failure). IsDone (Some x)) (sym h) tt
-done_err A paths (refused.Missing file) f d h = absurd d
-done_err A paths (refused.Bad file e) f d h = absurd d
-done_err A paths (refused.Evaluation g) f d h = absurd d
-done_err A paths refused.Read f d h = absurd d
-done_err A paths refused.Write f d h = absurd d
+done_err A paths e f d h = absurd d
 
 -- where nothing is missing, a built query is asked to run
 by_missing_none : (paths : List Path) (m : Option ℕ) → by_missing paths m ≡ None → m ≡ None

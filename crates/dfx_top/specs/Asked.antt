@@ -1,11 +1,12 @@
--- Meaning: what the words and the files ask for, or the first refusal in its order: the words, the script's file, what the script is
--- prepared to, what is built, the number of files, and their presence. `all` are the contents of the files.
+-- Meaning: what the words and the files ask for, or the first refusal in its order: the words, the
+-- script's file, what the script is prepared to, what is built, the number of files, and their
+-- presence. `all` are the contents of the files.
 use Rattle.std.specs.Prelude.{ℕ, Bool, true, false, ◌&&◌, ◌==◌, nat_lt, List, [], ◌∷◌, length, slice_get, unwrap_or, Option, Some, None, Result, Ok, Err, if◌then◌else◌}
 use Rattle.dfx_outside.specs.Contents.{Contents, content}
 use Rattle.logical_plan.specs.declared.query.Query.{Query}
 use Rattle.dfx_prepare.specs.Preparing.{Path, followed, prepared}
-use Rattle.dfx_prepare.specs.declared.failure.Failure.{Failure}
-use Rattle.dfx_prepare.specs.declared.failure.Failure.TheVariants as failure
+use Rattle.failure_text.specs.declared.failure.Failure.{Failure}
+use Rattle.failure_text.specs.declared.failure.Failure.TheVariants as failure
 use Rattle.dfx_prepare.specs.declared.prepared.Prepared.{Prepared}
 use Rattle.scan_run.specs.Chains.{Scanned, scanned, is_chain, has_sound_kinds}
 use Rattle.scan_run.specs.Sources.{missing}
@@ -39,6 +40,14 @@ by_words all (Some (r, path)) = by_text all r path (content all path)
 abbrev pub asked : List (List ℕ) → Contents → Result Ready Failure
 asked words all = by_words all (request_of words)
 
+abbrev pub text_at : Contents → Option Wanted → Option (List ℕ)
+text_at all None = None
+text_at all (Some (r, path)) = content all path
+
+-- the text of the script that the words name, where there is one
+abbrev pub script_text : List (List ℕ) → Contents → Option (List ℕ)
+script_text words all = text_at all (request_of words)
+
 -- ---- queries
 
 abbrev pub is_empty : {A : Type 0} → List A → Bool
@@ -51,7 +60,9 @@ is_none (Some x) = false
 
 -- the queries that are run: Filters and Projects over one Scan, all rows in any order
 abbrev pub is_built : Query → Bool
-is_built q = is_chain q.body && (has_sound_kinds (scanned q.body) && (is_empty q.order && (q.offset == 0 && is_none q.limit)))
+is_built q =
+    is_chain q.body && (has_sound_kinds (scanned q.body)
+    && (is_empty q.order && (q.offset == 0 && is_none q.limit)))
 
 abbrev pub paths_for : Prepared → Option Scanned → List Path
 paths_for p None = []
@@ -70,7 +81,9 @@ by_missing paths (Some file) = Some (failure.Missing (path_at paths file))
 
 -- at most 512 files are read
 abbrev pub by_count : Contents → List Path → Option Failure
-by_count all paths = if nat_lt 512 (length paths) then Some (failure.TooManySources (length paths)) else by_missing paths (missing all paths)
+by_count all paths =
+    if nat_lt 512 (length paths) then Some (failure.TooManySources (length paths))
+    else by_missing paths (missing all paths)
 
 -- why a prepared query isn't run, if so
 unfoldable pub not_run : Contents → Prepared → Option Failure
@@ -86,6 +99,6 @@ abbrev pub by_asked : Contents → Result Ready Failure → Option Failure
 by_asked all (Err f) = Some f
 by_asked all (Ok r) = by_request all r
 
--- why nothing is written, if so
+-- the refusal that the words and the files call for, if so: nothing is written then
 abbrev pub refused : List (List ℕ) → Contents → Option Failure
 refused words all = by_asked all (asked words all)

@@ -5,10 +5,10 @@ use Rattle.dfx_value.specs.declared.fault.ItemFault.{ItemFault}
 use Rattle.dfx_value.specs.declared.fault.ItemFault.TheVariants.{Evaluation}
 use Rattle.csv_source.specs.declared.refused.CsvRefused.{CsvRefused}
 use Rattle.logical_plan.specs.declared.query.Query.{Query}
-use Rattle.dfx_prepare.specs.Failures.{status_of, failure_line}
+use Rattle.failure_text.specs.Failures.{status_of, failure_line}
 use Rattle.dfx_prepare.specs.Preparing.{Path}
-use Rattle.dfx_prepare.specs.declared.failure.Failure.{Failure}
-use Rattle.dfx_prepare.specs.declared.failure.Failure.TheVariants as failure
+use Rattle.failure_text.specs.declared.failure.Failure.{Failure}
+use Rattle.failure_text.specs.declared.failure.Failure.TheVariants as failure
 use Rattle.scan_run.specs.Chains.{scanned, is_chain, AreSound}
 use Rattle.scan_run.specs.Sources.{fault_of}
 use Rattle.scan_run.specs.declared.refused.RunRefused.{RunRefused}
@@ -50,15 +50,17 @@ IsWriting f = ⊥
 
 -- the failure of a refused run over files at these paths, but for want of memory
 abbrev pub FailureOf : List Path → RunRefused → Failure → Type 0
-FailureOf paths (refused.Missing file) f = (f ≡ failure.Missing (path_at paths file)) ⊎ (f ≡ failure.NoMemory)
-FailureOf paths (refused.Bad file e) f = (f ≡ failure.BadFile (path_at paths file) (cause_of file e)) ⊎ (f ≡ failure.NoMemory)
+FailureOf paths (refused.Missing file) f =
+    (f ≡ failure.Missing (path_at paths file)) ⊎ (f ≡ failure.NoMemory)
+FailureOf paths (refused.Bad file e) f =
+    (f ≡ failure.BadFile (path_at paths file) (cause_of file e)) ⊎ (f ≡ failure.NoMemory)
 FailureOf paths (refused.Evaluation fault) f = f ≡ failure.Evaluation fault
 FailureOf paths refused.Read f = f ≡ failure.Read
 FailureOf paths refused.Write f = f ≡ failure.Write
 FailureOf paths refused.NoMemory f = f ≡ failure.NoMemory
 
--- the failure is the refusal that is called for, none where none is, or an object failed, or there was no memory; only where no
--- refusal is called for may a file or a value be refused
+-- the failure is the refusal that is called for, none where none is, or an object failed, or there
+-- was no memory; only where no refusal is called for may a file or a value be refused
 abbrev pub IsCalledFor : Option Failure → Option Failure → Type 0
 IsCalledFor refusal (Some failure.Read) = ⊤
 IsCalledFor refusal (Some failure.Write) = ⊤
@@ -67,11 +69,19 @@ IsCalledFor refusal (Some (failure.BadFile path cause)) = refusal ≡ None
 IsCalledFor refusal (Some (failure.Evaluation f)) = refusal ≡ None
 IsCalledFor refusal f = f ≡ refusal
 
--- a refused record or value is among the faults that are met; the table has its files at these paths
+-- a refused record or value is among the faults that are met; the table's files are at these paths
 abbrev pub IsMet : List Path → ℕ → List ItemFault → Option Failure → Type 0
-IsMet paths table met (Some (failure.BadFile path cause)) = (file : ℕ) × ((e : CsvRefused) × ((path ≡ path_at paths file) × ((cause ≡ cause_of file e) × Contains met (fault_of table file e))))
+IsMet paths table met (Some (failure.BadFile path cause)) =
+    (file : ℕ) × ((e : CsvRefused) × ((path ≡ path_at paths file)
+    × ((cause ≡ cause_of file e) × Contains met (fault_of table file e))))
 IsMet paths table met (Some (failure.Evaluation f)) = Contains met (Evaluation f)
 IsMet paths table met f = ⊤
+
+-- the refusal of the script's text is answered, or its file failed, or there was no memory
+abbrev pub IsTextRefused : Failure → Option Failure → Type 0
+IsTextRefused refusal (Some failure.Read) = ⊤
+IsTextRefused refusal (Some failure.NoMemory) = ⊤
+IsTextRefused refusal f = f ≡ Some refusal
 
 -- an answer, or want of memory
 abbrev pub IsDone : Option Failure → Type 0
@@ -89,7 +99,8 @@ abbrev pub status_for : Option Failure → ℕ
 status_for None = 0
 status_for (Some f) = status_of f
 
--- what the error sink took: the failure's line, or a beginning of it; nothing where there is no failure
+-- what the error sink took: the failure's line or a beginning of it, and nothing where there is no
+-- failure
 abbrev pub IsLine : Option Failure → List ℕ → Option (List ℕ) → Type 0
 IsLine None before now = now ≡ Some before
 IsLine (Some f) before now = EndsInFront before (failure_line f) now

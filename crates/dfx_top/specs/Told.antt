@@ -1,9 +1,10 @@
--- Words: all that is said of a command where the files and the sink tell their bytes. `quiet` says that no count of faults rose.
+-- Words: all that is said of a command where the files and the sink tell their bytes. `quiet` says
+-- that no count of faults rose.
 use Rattle.std.specs.Prelude.{ℕ, ◌≡◌, List, [], Option, Some, None, Result, Ok, Err}
 use Rattle.dfx_outside.specs.Contents.{Contents}
 use Rattle.dfx_outside.specs.Causes.{Rose}
 use Rattle.logical_plan.specs.Body.{Tables, all_faults}
-use Rattle.dfx_prepare.specs.declared.failure.Failure.{Failure}
+use Rattle.failure_text.specs.declared.failure.Failure.{Failure}
 use Rattle.dfx_prepare.specs.declared.prepared.Prepared.{Prepared}
 use Rattle.scan_run.specs.Chains.{Scanned, scanned}
 use Rattle.scan_run.specs.Outcomes.{HasFiles}
@@ -17,16 +18,20 @@ abbrev pub Quiet : ℕ → ℕ → ℕ → ℕ → Type 0
 Quiet files files_now sink sink_now = (¬ (Rose files files_now)) × (¬ (Rose sink sink_now))
 
 -- of a prepared query. `tables` are any that have the query's files as the table that it scans
-pub record ToldQuery (all : Contents) (before : List ℕ) (p : Prepared) (now : Option (List ℕ)) (quiet : Type 0) (f : Option Failure) : Type 0 where
+pub record ToldQuery (all : Contents) (before : List ℕ) (p : Prepared) (now : Option (List ℕ))
+    (quiet : Type 0) (f : Option Failure) : Type 0 where
   pub ended : EndedQuery all before p now f
   pub called : IsCalledFor (not_run all p) f
-  pub met : (scan : Scanned) (tables : Tables) → scanned p.query.body ≡ Some scan → HasFiles (run_of all before p scan) tables
+  pub met : (scan : Scanned) (tables : Tables) → scanned p.query.body ≡ Some scan
+      → HasFiles (run_of all before p scan) tables
       → IsMet (scan_paths p) scan.table (all_faults tables p.query.body) f
-  pub complete : (scan : Scanned) (tables : Tables) → scanned p.query.body ≡ Some scan → HasFiles (run_of all before p scan) tables
+  pub complete : (scan : Scanned) (tables : Tables) → scanned p.query.body ≡ Some scan
+      → HasFiles (run_of all before p scan) tables
       → not_run all p ≡ None → all_faults tables p.query.body ≡ [] → quiet → IsDone f
 
 -- of what is asked, or its refusal
-pub record Told (all : Contents) (before : List ℕ) (asked : Result Ready Failure) (now : Option (List ℕ)) (quiet : Type 0) (f : Option Failure) : Type 0 where
+pub record Told (all : Contents) (before : List ℕ) (asked : Result Ready Failure)
+    (now : Option (List ℕ)) (quiet : Type 0) (f : Option Failure) : Type 0 where
   pub ended : EndedOf all before asked now f
   pub called : IsCalledFor (by_asked all asked) f
   pub query : (p : Prepared) → asked ≡ Ok (request.Query, p) → ToldQuery all before p now quiet f

@@ -26,7 +26,7 @@ is_word word other = pointwise nat_eq word other
 abbrev pub default_partitions : ℕ
 default_partitions = 4
 
--- the number that digits write behind those of n
+-- the number that digits write after those of n
 abbrev pub number_after : ℕ → List ℕ → Option ℕ
 number_after n [] = Some n
 number_after n (b ∷ bs) = if is_ascii_digit b then number_after (n * 10 + (b - 48)) bs else None
@@ -37,11 +37,16 @@ in_range (Some n) = if nat_le 1 n && nat_le n 64 then Some n else None
 
 -- a number of partitions: 1 to 20 digits, from 1 to 64
 abbrev pub partitions_of : List ℕ → Option ℕ
-partitions_of word = if nat_le 1 (length word) && nat_le (length word) 20 then in_range (number_after 0 word) else None
+partitions_of word =
+    if nat_le 1 (length word) && nat_le (length word) 20
+    then in_range (number_after 0 word) else None
 
 -- of a plain command and its file
 abbrev pub plain_request : List ℕ → List ℕ → Option Asked
-plain_request name file = if is_word name (codes "query") then Some (request.Query, file) else (if is_word name (codes "explain") then Some (request.Explain default_partitions, file) else None)
+plain_request name file =
+    if is_word name (codes "query") then Some (request.Query, file)
+    else (if is_word name (codes "explain")
+    then Some (request.Explain default_partitions, file) else None)
 
 abbrev pub explained : List ℕ → Option ℕ → Option Asked
 explained file None = None
@@ -50,5 +55,7 @@ explained file (Some n) = Some (request.Explain n, file)
 -- `query FILE`, `explain FILE` and `explain FILE --partitions N`; all other words are refused
 abbrev pub request_of : List (List ℕ) → Option Asked
 request_of (name ∷ file ∷ []) = if is_plain file then plain_request name file else None
-request_of (name ∷ file ∷ option ∷ number ∷ []) = if is_word name (codes "explain") && (is_plain file && is_word option (codes "--partitions")) then explained file (partitions_of number) else None
+request_of (name ∷ file ∷ option ∷ number ∷ []) =
+    if is_word name (codes "explain") && (is_plain file && is_word option (codes "--partitions"))
+    then explained file (partitions_of number) else None
 request_of _ = None

@@ -7,12 +7,14 @@ ghost use Rattle.dfx_outside.specs.Contents.{Contents};
 ghost use Rattle.logical_plan.specs.Body.{Tables, all_faults};
 ghost use Rattle.scan_run.specs.Chains.{Scanned, scanned};
 ghost use Rattle.scan_run.specs.Outcomes.{HasFiles};
-ghost use Rattle.dfx_prepare.specs.declared.failure.Failure.{Failure as Refusal};
-ghost use Rattle.dfx_prepare.specs.declared.failure.Failure.TheVariants as failure;
+ghost use Rattle.failure_text.specs.declared.failure.Failure.{Failure as Refusal};
+ghost use Rattle.failure_text.specs.declared.failure.Failure.TheVariants as failure;
 ghost use Rattle.dfx_prepare.specs.declared.prepared.Prepared.{Prepared as APrepared};
+ghost use Rattle.dfx_prepare.specs.Preparing.{script_of};
 ghost use Rattle.dfx_top.specs.Answers.{Ended, run_of};
 ghost use Rattle.dfx_top.specs.Asked as spec;
-ghost use Rattle.dfx_top.specs.Outcomes.{of_result, status_for, IsCalledFor, IsMet, IsDone, IsRunning, IsLine};
+ghost use Rattle.dfx_top.specs.Counts.{HasCauses};
+ghost use Rattle.dfx_top.specs.Outcomes.{of_result, status_for, IsCalledFor, IsMet, IsDone, IsRunning, IsTextRefused, IsLine};
 ghost use Rattle.dfx_top.specs.Told.{Quiet, Told};
 ghost use Rattle.dfx_top.specs.Words.{request_of as request_of_words};
 ghost use Rattle.dfx_top.specs.declared.words.Request.TheVariants as wanted;
@@ -55,14 +57,15 @@ fn answer_prepared<F: Files, K: Sink>(
     files: &mut F,
     sink: &mut K,
 ) -> Result<(), Failure>
-    ensures told { (all : Contents) (before : List ℕ) → F.told files.old ≡ Some all → K.told sink.old ≡ Some before → Told all before (Ok (request, prepared.now)) (K.told sink.new) (Quiet (F.faults files.old) (F.faults files.new) (K.faults sink.old) (K.faults sink.new)) (of_result result) }
-
-    ensures read { result ≡ Err failure.Read → Rose (F.faults files.old) (F.faults files.new) }
-    ensures write { result ≡ Err failure.Write → Rose (K.faults sink.old) (K.faults sink.new) }
-    ensures missing { (p : List ℕ) → result ≡ Err (failure.Missing p) → Rose (F.absences files.old) (F.absences files.new) }
+    ensures told { (all : Contents) (before : List ℕ)
+        → F.told files.old ≡ Some all → K.told sink.old ≡ Some before
+        → Told all before (Ok (request, prepared.now)) (K.told sink.new)
+        (Quiet (F.faults files.old) (F.faults files.new) (K.faults sink.old) (K.faults sink.new))
+        (of_result result) }
+    ensures causes { HasCauses (F.told files.old) (F.told files.new)
+        (F.faults files.old) (F.faults files.new) (F.absences files.old) (F.absences files.new)
+        (K.faults sink.old) (K.faults sink.new) result }
     ensures running { IfErr result IsRunning }
-    ensures same { F.told files.new ≡ F.told files.old }
-    ensures later { (F.faults files.old ≤ F.faults files.new) × (F.absences files.old ≤ F.absences files.new) × (K.faults sink.old ≤ K.faults sink.new) }
 {
     match request {
         Request::Query => run_query(alloc, prepared, files, sink),
@@ -79,14 +82,17 @@ fn answer_text<F: Files, K: Sink>(
     files: &mut F,
     sink: &mut K,
 ) -> Result<(), Failure>
-    ensures told { (all : Contents) (before : List ℕ) → F.told files.old ≡ Some all → K.told sink.old ≡ Some before → Told all before (spec.by_script all request text.now) (K.told sink.new) (Quiet (F.faults files.old) (F.faults files.new) (K.faults sink.old) (K.faults sink.new)) (of_result result) }
-
-    ensures read { result ≡ Err failure.Read → Rose (F.faults files.old) (F.faults files.new) }
-    ensures write { result ≡ Err failure.Write → Rose (K.faults sink.old) (K.faults sink.new) }
-    ensures missing { (p : List ℕ) → result ≡ Err (failure.Missing p) → Rose (F.absences files.old) (F.absences files.new) }
+    ensures told { (all : Contents) (before : List ℕ)
+        → F.told files.old ≡ Some all → K.told sink.old ≡ Some before
+        → Told all before (spec.by_script all request text.now) (K.told sink.new)
+        (Quiet (F.faults files.old) (F.faults files.new) (K.faults sink.old) (K.faults sink.new))
+        (of_result result) }
+    ensures causes { HasCauses (F.told files.old) (F.told files.new)
+        (F.faults files.old) (F.faults files.new) (F.absences files.old) (F.absences files.new)
+        (K.faults sink.old) (K.faults sink.new) result }
+    ensures text { (refusal : Refusal) → script_of text.now ≡ Err refusal
+        → IsTextRefused refusal (of_result result) × (K.told sink.new ≡ K.told sink.old) }
     ensures words { result ≡ Err failure.Words → ⊥ }
-    ensures same { F.told files.new ≡ F.told files.old }
-    ensures later { (F.faults files.old ≤ F.faults files.new) × (F.absences files.old ≤ F.absences files.new) × (K.faults sink.old ≤ K.faults sink.new) }
 {
     let prepared = prepare(alloc, text, files, partitions_for(request))?;
     answer_prepared(alloc, request, &prepared, files, sink)
@@ -100,14 +106,20 @@ fn run<F: Files, K: Sink>(
     files: &mut F,
     sink: &mut K,
 ) -> Result<(), Failure>
-    ensures told { (all : Contents) (before : List ℕ) → F.told files.old ≡ Some all → K.told sink.old ≡ Some before → Told all before (spec.asked words.now all) (K.told sink.new) (Quiet (F.faults files.old) (F.faults files.new) (K.faults sink.old) (K.faults sink.new)) (of_result result) }
-
+    ensures told { (all : Contents) (before : List ℕ)
+        → F.told files.old ≡ Some all → K.told sink.old ≡ Some before
+        → Told all before (spec.asked words.now all) (K.told sink.new)
+        (Quiet (F.faults files.old) (F.faults files.new) (K.faults sink.old) (K.faults sink.new))
+        (of_result result) }
+    ensures causes { HasCauses (F.told files.old) (F.told files.new)
+        (F.faults files.old) (F.faults files.new) (F.absences files.old) (F.absences files.new)
+        (K.faults sink.old) (K.faults sink.new) result }
+    ensures text { (all : Contents) (text : List ℕ) (refusal : Refusal)
+        → F.told files.old ≡ Some all
+        → spec.script_text words.now all ≡ Some text → script_of text ≡ Err refusal
+        → IsTextRefused refusal (of_result result) × (K.told sink.new ≡ K.told sink.old) }
     ensures words { request_of_words words.now ≡ None → result ≡ Err failure.Words }
     ensures words_only { result ≡ Err failure.Words → request_of_words words.now ≡ None }
-    ensures read { result ≡ Err failure.Read → Rose (F.faults files.old) (F.faults files.new) }
-    ensures write { result ≡ Err failure.Write → Rose (K.faults sink.old) (K.faults sink.new) }
-    ensures missing { (p : List ℕ) → result ≡ Err (failure.Missing p) → Rose (F.absences files.old) (F.absences files.new) }
-    ensures same { F.told files.new ≡ F.told files.old }
 {
     let Some(requested) = request_of(words) else {
         return Err(Failure::Words);
@@ -120,23 +132,27 @@ fn run<F: Files, K: Sink>(
 
 /// Writes a line, as far as the sink takes it.
 fn write_line<E: Sink>(err: &mut E, line: &[u8])
-    ensures { (before : List ℕ) → E.told err.old ≡ Some before → EndsInFront before line.now (E.told err.new) }
+    ensures front { (before : List ℕ) → E.told err.old ≡ Some before
+        → EndsInFront before line.now (E.told err.new) }
+    ensures later { E.faults err.old ≤ E.faults err.new }
 {
     let _ = write_all(err, line);
 }
 
 /// Writes the line of a failure, as far as there is memory for it and the sink takes it.
 fn report<E: Sink>(alloc: Global, failure: &Failure, err: &mut E)
-    ensures { (before : List ℕ) → E.told err.old ≡ Some before → IsLine (Some failure.now) before (E.told err.new) }
+    ensures line { (before : List ℕ) → E.told err.old ≡ Some before
+        → IsLine (Some failure.now) before (E.told err.new) }
+    ensures later { E.faults err.old ≤ E.faults err.new }
 {
     if let Ok(line) = failure_line(alloc, failure) {
         write_line(err, line.as_str().as_bytes());
     }
 }
 
-/// Runs a command. `query FILE` writes the answer of the script at that path as CSV text, where its query is Filters and Projects over
-/// one Scan of CSV files; `explain FILE`, with `--partitions N` where N isn't 4, writes the text of the query's plan. A failure is
-/// written to `err` as one line. All that was handed in comes back, with every file closed.
+/// Runs a command. `query FILE` writes the answer of the script at that path as CSV text, where its query is Filters and
+/// Projects over one Scan of CSV files; `explain FILE`, with `--partitions N` where N isn't 4, writes the text of the
+/// query's plan. A failure is written to `err` as one line. All that was handed in comes back, with every file closed.
 pub fn command_here<F: Files, K: Sink, E: Sink>(
     alloc: Global,
     words: &[Text],
@@ -144,45 +160,80 @@ pub fn command_here<F: Files, K: Sink, E: Sink>(
     mut sink: K,
     mut err: E,
 ) -> Finished<F, K, E>
-    // Where the files and the sink tell their bytes: what was written, by what the words and the files ask and how it ended.
-    ensures ended { (all : Contents) (before : List ℕ) → F.told files ≡ Some all → K.told sink ≡ Some before → Ended words.now all before (K.told result.sink) result.failure }
+    // Where the files and the sink tell their bytes: what was written, by what the words and the files ask and
+    // how it ended. Where they call for a refusal, nothing was, whatever comes.
+    ensures ended { (all : Contents) (before : List ℕ) → F.told files ≡ Some all
+        → K.told sink ≡ Some before
+        → Ended words.now all before (K.told result.sink) result.failure }
+    ensures unwritten { (all : Contents) (before : List ℕ)
+        → F.told files ≡ Some all → K.told sink ≡ Some before
+        → (refusal : Refusal) → spec.refused words.now all ≡ Some refusal
+        → K.told result.sink ≡ Some before }
 
-    // Why it ended so: with the refusal that the words and the files call for, unless an object failed or memory was wanting. Where
-    // they call for none there is an answer, or a file or a value is refused.
-    ensures called { (all : Contents) (before : List ℕ) → F.told files ≡ Some all → K.told sink ≡ Some before → IsCalledFor (spec.refused words.now all) result.failure }
+    // Why it ended so: with the refusal that the words and the files call for, unless an object failed or memory
+    // was wanting. Where they call for none there is an answer, or a file or a value is refused.
+    ensures called { (all : Contents) (before : List ℕ) → F.told files ≡ Some all
+        → K.told sink ≡ Some before
+        → IsCalledFor (spec.refused words.now all) result.failure }
 
-    // A file or a value is refused only where that fault is among those that the query's body meets, over all tables that have the
-    // query's files as the table that it scans.
-    ensures met { (all : Contents) (before : List ℕ) → F.told files ≡ Some all → K.told sink ≡ Some before
-        → (p : APrepared) (scan : Scanned) (tables : Tables) → spec.asked words.now all ≡ Ok (wanted.Query, p) → scanned p.query.body ≡ Some scan
-        → HasFiles (run_of all before p scan) tables → IsMet (spec.scan_paths p) scan.table (all_faults tables p.query.body) result.failure }
+    // A file or a value is refused only where that fault is among those that the query's body meets, over all
+    // tables that have the query's files as the table that it scans.
+    ensures met { (all : Contents) (before : List ℕ) → F.told files ≡ Some all
+        → K.told sink ≡ Some before
+        → (p : APrepared) (scan : Scanned) (tables : Tables)
+        → spec.asked words.now all ≡ Ok (wanted.Query, p) → scanned p.query.body ≡ Some scan
+        → HasFiles (run_of all before p scan) tables
+        → IsMet (spec.scan_paths p) scan.table (all_faults tables p.query.body) result.failure }
 
-    // So where no refusal is called for, the body meets no fault, and neither count of faults rose, there is an answer, or want of memory.
-    ensures complete { (all : Contents) (before : List ℕ) → F.told files ≡ Some all → K.told sink ≡ Some before
-        → (p : APrepared) (scan : Scanned) (tables : Tables) → spec.asked words.now all ≡ Ok (wanted.Query, p) → scanned p.query.body ≡ Some scan
-        → HasFiles (run_of all before p scan) tables → spec.refused words.now all ≡ None → all_faults tables p.query.body ≡ []
-        → Quiet (F.faults files) (F.faults result.files) (K.faults sink) (K.faults result.sink) → IsDone result.failure }
-    ensures explained { (all : Contents) (before : List ℕ) → F.told files ≡ Some all → K.told sink ≡ Some before
+    // So where no refusal is called for, the body meets no fault, and neither count of faults rose, there is an
+    // answer, or want of memory.
+    ensures complete { (all : Contents) (before : List ℕ)
+        → F.told files ≡ Some all → K.told sink ≡ Some before
+        → (p : APrepared) (scan : Scanned) (tables : Tables)
+        → spec.asked words.now all ≡ Ok (wanted.Query, p) → scanned p.query.body ≡ Some scan
+        → HasFiles (run_of all before p scan) tables
+        → spec.refused words.now all ≡ None → all_faults tables p.query.body ≡ []
+        → Quiet (F.faults files) (F.faults result.files) (K.faults sink) (K.faults result.sink)
+        → IsDone result.failure }
+    ensures explained { (all : Contents) (before : List ℕ)
+        → F.told files ≡ Some all → K.told sink ≡ Some before
         → (n : ℕ) (p : APrepared) → spec.asked words.now all ≡ Ok (wanted.Explain n, p)
-        → Quiet (F.faults files) (F.faults result.files) (K.faults sink) (K.faults result.sink) → IsDone result.failure }
+        → Quiet (F.faults files) (F.faults result.files) (K.faults sink) (K.faults result.sink)
+        → IsDone result.failure }
 
     // And where a refusal is called for and neither count of faults rose, it comes, or want of memory.
-    ensures exact { (all : Contents) (before : List ℕ) → F.told files ≡ Some all → K.told sink ≡ Some before
+    ensures exact { (all : Contents) (before : List ℕ) → F.told files ≡ Some all
+        → K.told sink ≡ Some before
         → (refusal : Refusal) → spec.refused words.now all ≡ Some refusal
         → Quiet (F.faults files) (F.faults result.files) (K.faults sink) (K.faults result.sink)
         → (result.failure ≡ Some refusal) ⊎ (result.failure ≡ Some failure.NoMemory) }
 
+    // Where the files tell their bytes: a text that spells no script is refused so, or its file failed, or memory
+    // was wanting; and nothing was written.
+    ensures text { (all : Contents) (text : List ℕ) (refusal : Refusal) → F.told files ≡ Some all
+        → spec.script_text words.now all ≡ Some text → script_of text ≡ Err refusal
+        → IsTextRefused refusal result.failure × (K.told result.sink ≡ K.told sink) }
+
     // Told or not: refused words, exactly; and what failed where an object is said to have failed or to lack a path.
     ensures words { request_of_words words.now ≡ None → result.failure ≡ Some failure.Words }
     ensures words_only { result.failure ≡ Some failure.Words → request_of_words words.now ≡ None }
-    ensures read { result.failure ≡ Some failure.Read → Rose (F.faults files) (F.faults result.files) }
-    ensures write { result.failure ≡ Some failure.Write → Rose (K.faults sink) (K.faults result.sink) }
-    ensures missing { (p : List ℕ) → result.failure ≡ Some (failure.Missing p) → Rose (F.absences files) (F.absences result.files) }
+    ensures read { result.failure ≡ Some failure.Read
+        → Rose (F.faults files) (F.faults result.files) }
+    ensures write { result.failure ≡ Some failure.Write
+        → Rose (K.faults sink) (K.faults result.sink) }
+    ensures missing { (p : List ℕ) → result.failure ≡ Some (failure.Missing p)
+        → Rose (F.absences files) (F.absences result.files) }
 
-    // The status and the line.
-    ensures status { result.status ≡ status_for result.failure }
-    ensures line { (before : List ℕ) → E.told err ≡ Some before → IsLine result.failure before (E.told result.err) }
+    // Told or not: no count falls, and the files keep their contents.
+    ensures later { (F.faults files ≤ F.faults result.files)
+        × (F.absences files ≤ F.absences result.files)
+        × (K.faults sink ≤ K.faults result.sink) × (E.faults err ≤ E.faults result.err) }
     ensures same { F.told result.files ≡ F.told files }
+
+    // The status, and what the error sink took where it tells its bytes.
+    ensures status { result.status ≡ status_for result.failure }
+    ensures line { (before : List ℕ) → E.told err ≡ Some before
+        → IsLine result.failure before (E.told result.err) }
 {
     match run(alloc, words, &mut files, &mut sink) {
         Ok(()) => Finished {

@@ -1,10 +1,9 @@
 //! The run of a prepared query.
 
-ghost use Rattle.std.specs.Prelude.{◌≡◌, ◌≤◌, ℕ, List, true, length, Some, Err, IfErr, IsTrue};
-ghost use Rattle.dfx_outside.specs.Causes.{Rose};
+ghost use Rattle.std.specs.Prelude.{◌≡◌, ◌≤◌, ℕ, List, true, length, Some, IfErr, IsTrue};
 ghost use Rattle.dfx_outside.specs.Contents.{Contents};
-ghost use Rattle.dfx_prepare.specs.declared.failure.Failure.TheVariants as failure;
 ghost use Rattle.dfx_top.specs.Asked as spec;
+ghost use Rattle.dfx_top.specs.Counts.{HasCauses};
 ghost use Rattle.dfx_top.specs.Outcomes.{IsBuilt, IsRunning, of_result};
 ghost use Rattle.dfx_top.specs.Told.{Quiet, ToldQuery};
 
@@ -57,13 +56,15 @@ fn run_built<F: Files, K: Sink>(
     requires paths { paths.now ≡ spec.scan_paths prepared.now }
     requires few { length paths.now ≤ 512 }
 
-    ensures told { (all : Contents) (before : List ℕ) → F.told files.old ≡ Some all → K.told sink.old ≡ Some before → ToldQuery all before prepared.now (K.told sink.new) (Quiet (F.faults files.old) (F.faults files.new) (K.faults sink.old) (K.faults sink.new)) (of_result result) }
-    ensures read { result ≡ Err failure.Read → Rose (F.faults files.old) (F.faults files.new) }
-    ensures write { result ≡ Err failure.Write → Rose (K.faults sink.old) (K.faults sink.new) }
-    ensures missing { (p : List ℕ) → result ≡ Err (failure.Missing p) → Rose (F.absences files.old) (F.absences files.new) }
+    ensures told { (all : Contents) (before : List ℕ)
+        → F.told files.old ≡ Some all → K.told sink.old ≡ Some before
+        → ToldQuery all before prepared.now (K.told sink.new)
+        (Quiet (F.faults files.old) (F.faults files.new) (K.faults sink.old) (K.faults sink.new))
+        (of_result result) }
+    ensures causes { HasCauses (F.told files.old) (F.told files.new)
+        (F.faults files.old) (F.faults files.new) (F.absences files.old) (F.absences files.new)
+        (K.faults sink.old) (K.faults sink.new) result }
     ensures running { IfErr result IsRunning }
-    ensures same { F.told files.new ≡ F.told files.old }
-    ensures later { (F.faults files.old ≤ F.faults files.new) × (F.absences files.old ≤ F.absences files.new) × (K.faults sink.old ≤ K.faults sink.new) }
 {
     match run_chain(alloc, &prepared.query, paths, files, sink) {
         Ok(()) => Ok(()),
@@ -78,13 +79,15 @@ pub fn run_query<F: Files, K: Sink>(
     files: &mut F,
     sink: &mut K,
 ) -> Result<(), Failure>
-    ensures told { (all : Contents) (before : List ℕ) → F.told files.old ≡ Some all → K.told sink.old ≡ Some before → ToldQuery all before prepared.now (K.told sink.new) (Quiet (F.faults files.old) (F.faults files.new) (K.faults sink.old) (K.faults sink.new)) (of_result result) }
-    ensures read { result ≡ Err failure.Read → Rose (F.faults files.old) (F.faults files.new) }
-    ensures write { result ≡ Err failure.Write → Rose (K.faults sink.old) (K.faults sink.new) }
-    ensures missing { (p : List ℕ) → result ≡ Err (failure.Missing p) → Rose (F.absences files.old) (F.absences files.new) }
+    ensures told { (all : Contents) (before : List ℕ)
+        → F.told files.old ≡ Some all → K.told sink.old ≡ Some before
+        → ToldQuery all before prepared.now (K.told sink.new)
+        (Quiet (F.faults files.old) (F.faults files.new) (K.faults sink.old) (K.faults sink.new))
+        (of_result result) }
+    ensures causes { HasCauses (F.told files.old) (F.told files.new)
+        (F.faults files.old) (F.faults files.new) (F.absences files.old) (F.absences files.new)
+        (K.faults sink.old) (K.faults sink.new) result }
     ensures running { IfErr result IsRunning }
-    ensures same { F.told files.new ≡ F.told files.old }
-    ensures later { (F.faults files.old ≤ F.faults files.new) × (F.absences files.old ≤ F.absences files.new) × (K.faults sink.old ≤ K.faults sink.new) }
 {
     if !is_built(&prepared.query) {
         return Err(Failure::NotBuilt);

@@ -90,7 +90,8 @@ fn plain_request<'a>(name: &Text, script: &'a Text) -> Option<Requested<'a>>
 
 /// The request to explain a file with a number of partitions.
 fn explained<'a>(script: &'a Text, number: &Text) -> Option<Requested<'a>>
-    ensures { option_map spec.viewed result ≡ spec.explained script.now (spec.partitions_of number.now) }
+    ensures { option_map spec.viewed result
+        ≡ spec.explained script.now (spec.partitions_of number.now) }
 {
     match partitions_of(number.bytes()) {
         Some(partitions) => Some(Requested {

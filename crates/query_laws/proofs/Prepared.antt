@@ -1,14 +1,13 @@
 -- What a script is prepared to: its bound query, with its plan, over as many lists of files as it has tables.
-use Rattle.std.proofs.Common.{ℕ, suc, ◌+◌, ◌≡◌, refl, sym, ap, ◌∙◌, List, [], ◌∷◌, ◌++◌, length, map, Result, Ok, Err, subst, arith}
-use Rattle.std.proofs.lemmas.List.{length-append}
+use Rattle.std.proofs.Common.{ℕ, suc, ◌+◌, ◌≡◌, refl, sym, ap, ◌∙◌, List, [], ◌∷◌, length, map, Result, Ok, Err, subst, arith}
 use Rattle.dfx_outside.specs.Contents.{Contents}
 use Rattle.sql_grammar.specs.declared.ast.Script.{Script}
 use Rattle.sql_grammar.specs.declared.ast.TableAst.{TableAst}
 use Rattle.expr_binder.specs.Answer.{Answer}
 use Rattle.sql_binder.specs.Bound.{bound}
 use Rattle.logical_plan.specs.declared.query.Query.{Query}
-use Rattle.dfx_prepare.specs.Preparing.{Path, schema_of, script_of, of_bound, query_of, plan_of, table_files, followed, files_behind, files_of, with_files, prepared_over, prepared_script, prepared}
-use Rattle.dfx_prepare.specs.declared.failure.Failure.{Failure}
+use Rattle.dfx_prepare.specs.Preparing.{Path, schema_of, script_of, of_bound, query_of, plan_of, table_files, followed, files_of, with_files, prepared_over, prepared_script, prepared}
+use Rattle.failure_text.specs.declared.failure.Failure.{Failure}
 use Rattle.dfx_prepare.specs.declared.prepared.Prepared.{Prepared}
 use Rattle.kind_laws.specs.Tables.{table_kinds, file_counts}
 use Rattle.query_laws.specs.Runs.{csv_tables}
@@ -19,14 +18,21 @@ pub record IsOf (script : Script) (n : ℕ) (p : Prepared) : Type 0 where
   pub plan : p.plan ≡ plan_of p.query (map length p.paths) n
   pub each : length p.paths ≡ length script.tables
 
-counted : (all : Contents) (found : List (List Path)) (ts : List TableAst) (paths : List (List Path)) → files_behind all found ts ≡ Ok paths → length paths ≡ length found + length ts
-counted all found [] paths e = (let a : found ≡ paths = cc in sym (ap length a) ∙ (let z : length found ≡ length found + 0 = omega arith in z))
-counted all found (t ∷ ts) paths e = go (table_files all t) (λ files h. counted all (found ++ files ∷ []) ts paths h) e
+counted : (all : Contents) (ts : List TableAst) (paths : List (List Path)) → files_of all ts ≡ Ok paths → length paths ≡ length ts
+counted all [] paths e = (let a : [] ≡ paths = cc in ap length (sym a))
+counted all (t ∷ ts) paths e = by_table (table_files all t) (counted all ts) e
   where
-    go : (r : Result (List Path) Failure) → ((files : List Path) → files_behind all (found ++ files ∷ []) ts ≡ Ok paths → length paths ≡ length (found ++ files ∷ []) + length ts)
-        → followed r (λ files. files_behind all (found ++ files ∷ []) ts) ≡ Ok paths → length paths ≡ length found + suc (length ts)
-    go (Ok files) k h = (let a = k files h in let b = length-append found (files ∷ []) in omega arith)
-    go (Err refusal) k h = cc
+    by_rest : (files : List Path) (r : Result (List (List Path)) Failure) → files_of all ts ≡ r
+        → ((more : List (List Path)) → files_of all ts ≡ Ok more → length more ≡ length ts)
+        → followed r (λ more. Ok (files ∷ more)) ≡ Ok paths → length paths ≡ suc (length ts)
+    by_rest files (Ok more) is k h = (let a : files ∷ more ≡ paths = cc in ap length (sym a) ∙ ap suc (k more is))
+    by_rest files (Err refusal) is k h = cc
+
+    by_table : (r : Result (List Path) Failure)
+        → ((more : List (List Path)) → files_of all ts ≡ Ok more → length more ≡ length ts)
+        → followed r (λ files. followed (files_of all ts) (λ more. Ok (files ∷ more))) ≡ Ok paths → length paths ≡ suc (length ts)
+    by_table (Ok files) k h = by_rest files (files_of all ts) refl k h
+    by_table (Err refusal) k h = cc
 
 bound_is : (a : Answer Query) (q : Query) → of_bound a ≡ Ok q → a ≡ Ok q
 bound_is (Ok x) q e = (let a : x ≡ q = cc in ap Ok a)
@@ -43,7 +49,7 @@ of_query script n paths p l (Ok q) e h = (let a : with_files script.tables n pat
 of_query script n paths p l (Err refusal) e h = cc
 
 of_files : (all : Contents) (n : ℕ) (script : Script) (p : Prepared) (r : Result (List (List Path)) Failure) → files_of all script.tables ≡ r → followed r (prepared_over script n) ≡ Ok p → IsOf script n p
-of_files all n script p (Ok paths) e h = of_query script n paths p (counted all [] script.tables paths e ∙ (let z : 0 + length script.tables ≡ length script.tables = omega arith in z)) (query_of script) refl h
+of_files all n script p (Ok paths) e h = of_query script n paths p (counted all script.tables paths e) (query_of script) refl h
 of_files all n script p (Err refusal) e h = cc
 
 pub is_of : (text : List ℕ) (all : Contents) (n : ℕ) (script : Script) (p : Prepared) → script_of text ≡ Ok script → prepared text all n ≡ Ok p → IsOf script n p

@@ -1,6 +1,6 @@
 use Rattle.std.proofs.Common.{◌≡◌, ap, sym, ◌∙◌, Err, inl}
-use Rattle.dfx_top.specs.Asked.{by_asked}
-use Rattle.dfx_top.proofs.CommandEnds.{exact_of}
+use Rattle.dfx_top.specs.Asked.{asked, by_asked}
+use Rattle.dfx_top.proofs.CommandEnds.{exact_of, unwritten}
 use Rattle.dfx_top.proofs.command.command_here.Goals as goal
 
 pub returns-in-Ok-clause-called : goal.returns-in-Ok-clause-called
@@ -23,4 +23,14 @@ returns-in-Err-clause-explained g c all before ft kt n p e q = (c.in-Err.ensures
 
 pub returns-in-Err-clause-exact : goal.returns-in-Err-clause-exact
 returns-in-Err-clause-exact g c all before ft kt refusal e q = exact_of _ c.in-Err.failure refusal _ (c.in-Err.ensures.told all before ft kt).called e
-    (λ f x. x.0 (c.in-Err.ensures.read (ap Err f))) (λ f x. x.1 (c.in-Err.ensures.write (ap Err f))) q
+    (λ f x. x.0 (c.in-Err.ensures.causes.read (ap Err f))) (λ f x. x.1 (c.in-Err.ensures.causes.write (ap Err f))) q
+
+pub returns-in-Ok-clause-unwritten : goal.returns-in-Ok-clause-unwritten
+returns-in-Ok-clause-unwritten g c all before ft kt refusal e =
+    let told = c.in-Ok.ensures.told all before ft kt in
+    unwritten all before (asked c.args.words.now all) _ _ refusal told.ended told.called e
+
+pub returns-in-Err-clause-unwritten : goal.returns-in-Err-clause-unwritten
+returns-in-Err-clause-unwritten g c all before ft kt refusal e =
+    let told = c.in-Err.ensures.told all before ft kt in
+    unwritten all before (asked c.args.words.now all) _ _ refusal told.ended told.called e

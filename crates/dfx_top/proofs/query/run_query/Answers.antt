@@ -1,6 +1,6 @@
 use Rattle.std.proofs.Common.{rules, ap, sym, ◌∙◌, List, length, subst, ◌<◌, Some}
 use Rattle.dfx_prepare.specs.Preparing.{Path}
-use Rattle.dfx_prepare.specs.declared.failure.Failure.TheVariants as failure
+use Rattle.failure_text.specs.declared.failure.Failure.TheVariants as failure
 use Rattle.dfx_top.proofs.QueryEnds.{not_run-unbuilt, not_run-many, told_refused, told_many}
 use Rattle.dfx_top.proofs.query.run_query.Goals as goal
 

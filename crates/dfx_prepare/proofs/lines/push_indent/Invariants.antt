@@ -1,8 +1,0 @@
-use Rattle.std.proofs.Common.{◌≡◌, ◌++◌, ◌-◌}
-use Rattle.std.specs.String.{string_bytes}
-use Rattle.dfx_prepare.specs.PlanText.{indent}
-use Rattle.dfx_prepare.proofs.lines.push_indent.Given as goal
-
--- what is written and what is left make the whole
-abbrev pub invariant-loop-at : goal.invariant-loop-at
-invariant-loop-at l = string_bytes l.text ++ indent (l.level - l._at) ≡ string_bytes l.initial.text ++ indent l.level

@@ -1,0 +1,10 @@
+use Rattle.std.proofs.Common.{arith}
+use Rattle.std.proofs.lemmas.Grind.{common_steps}
+use Rattle.plan_text.proofs.ListSteps.{comma_utf8}
+use Rattle.plan_text.proofs.lists.push_columns.Goals as goal
+
+pub loop-column-preserved : goal.loop-column-preserved
+loop-column-preserved c = record {
+  utf8 = comma_utf8;
+  text = grind (arith, common_steps);
+}

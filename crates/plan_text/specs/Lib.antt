@@ -1,0 +1,4 @@
+pub mod ListText
+pub mod ExprText
+pub mod NodeText
+pub mod PlanText

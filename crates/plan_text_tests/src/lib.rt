@@ -1,0 +1,9 @@
+//! Tests of the texts of plans and expressions that are made by hand.
+#![tactic(auto)]
+
+#[cfg(test)]
+mod exprs;
+#[cfg(test)]
+mod nodes;
+#[cfg(test)]
+mod shown;
