@@ -1,0 +1,13 @@
+pub mod Settled
+pub mod Unified
+pub mod Meanings
+pub mod Agreeing
+pub mod Callless
+pub mod CallKinds
+pub mod Groupings
+pub mod Moved
+pub mod Joins
+pub mod Each
+pub mod Outputs
+pub mod Grouped
+pub mod Selects
