@@ -7,6 +7,7 @@ use Rattle.std.proofs.lemmas.List.{append_assoc, length-map}
 use Rattle.dfx_value.specs.declared.kind.Kind.{Kind}
 use Rattle.dfx_value.specs.declared.kind.Kind.TheVariants as kind
 use Rattle.dfx_value.specs.declared.op.AggCall.{AggCall}
+use Rattle.dfx_value.specs.declared.op.AggCall.TheVariants as agg_call
 use Rattle.scalar_exprs.specs.declared.expr.Expr.{Expr}
 use Rattle.scalar_exprs.specs.Kinds.{agg_kind, call_kind}
 use Rattle.logical_plan.specs.declared.plan.Logical.{Logical}
@@ -148,7 +149,7 @@ module _ (columns : Columns) where
     numbered_calls : (found : List (Option (FnAst × ExprAst))) (all front args : List Kind) (c : ℕ) → all ≡ front ++ args → c ≡ length front → Pairs ArgumentKind (arguments_of found) args → Every (FitsArgument columns) found
         → Calls all (numbered c found) (map (of_argument columns) found)
     numbered_calls [] all front args c e l p h = (refl, refl)
-    numbered_calls (None ∷ more) all front args c e l p h = one_call all _ kind.Int (numbered c more) (map (of_argument columns) more) refl (numbered_calls more all front args c e l p h.1)
+    numbered_calls (None ∷ more) all front args c e l p h = one_call all agg_call.CountAll kind.Int (numbered c more) (map (of_argument columns) more) refl (numbered_calls more all front args c e l p h.1)
     numbered_calls (Some (f, a) ∷ more) all front [] c e l p h = absurd p
     numbered_calls (Some (f, a) ∷ more) all front (j ∷ args) c e l p h =
         let fit = h.0 in
@@ -205,17 +206,17 @@ module _ (columns : Columns) where
 
 -- ---- filters
 
-pub filter_bodied : (kss : List (List Kind)) (body : Logical) (ks : List Kind) (test : Expr) → Bodied kss body ks → HasKind ks test kind.Bool → Bodied kss (plan.Filter body test) ks
-filter_bodied kss body ks test h t = (
+pub filter_bodied : (kss : List (List Kind)) (body : Logical) (js : List Kind) (test : Expr) → Bodied kss body js → HasKind js test kind.Bool → Bodied kss (plan.Filter body test) js
+filter_bodied kss body js test h t = (
   kinded-Filter kss body test ∙ and_from (is_well_kinded kss body) _ h.0 (ap (λ (l : List Kind). is_test l test) h.1 ∙ and_from (is_truth _) _ (ap is_truth t.kind) t.fits),
   kinds-Filter body test ∙ h.1,
 )
 
 -- HAVING's test is a truth, where there is one
 abbrev pub KeptTruth : List Kind → Option Expr → Type 0
-KeptTruth ks None = Unit {0}
-KeptTruth ks (Some test) = HasKind ks test kind.Bool
+KeptTruth js None = Unit {0}
+KeptTruth js (Some test) = HasKind js test kind.Bool
 
-pub kept_bodied : (kss : List (List Kind)) (body : Logical) (ks : List Kind) (test : Option Expr) → Bodied kss body ks → KeptTruth ks test → Bodied kss (rows.kept test body) ks
-kept_bodied kss body ks None h t = h
-kept_bodied kss body ks (Some test) h t = filter_bodied kss body ks test h t
+pub kept_bodied : (kss : List (List Kind)) (body : Logical) (js : List Kind) (test : Option Expr) → Bodied kss body js → KeptTruth js test → Bodied kss (rows.kept test body) js
+kept_bodied kss body js None h t = h
+kept_bodied kss body js (Some test) h t = filter_bodied kss body js test h t

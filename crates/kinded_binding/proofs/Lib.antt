@@ -11,3 +11,8 @@ pub mod Each
 pub mod Outputs
 pub mod Grouped
 pub mod Selects
+pub mod Unions
+pub mod Froms
+pub mod Items
+pub mod Spelled
+pub mod Bounds

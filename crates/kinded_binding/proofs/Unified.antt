@@ -31,7 +31,7 @@ use Rattle.kinded_binding.proofs.Settled.{Real, HasKind, Typing, widened_real, c
 abbrev pub Becomes : Kind → Kind → Type 0
 Becomes j u = (j ≡ u) ⊎ ((is_number j ≡ true) × (is_number u ≡ true))
 
-becomes_again : (j u v : Kind) → Becomes j u → Becomes u v → Becomes j v
+pub becomes_again : (j u v : Kind) → Becomes j u → Becomes u v → Becomes j v
 becomes_again j u v (inl p) k = subst (λ (x : Kind). Becomes x v) (sym p) k
 becomes_again j u v (inr p) (inl q) = inr (p.0, subst (λ (x : Kind). is_number x ≡ true) q p.1)
 becomes_again j u v (inr p) (inr q) = inr (p.0, q.1)

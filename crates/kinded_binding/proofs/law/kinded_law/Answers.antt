@@ -1,10 +1,12 @@
-use Rattle.kinded_binding.proofs.Selects.{selected_selects}
-use Rattle.kinded_binding.proofs.Outputs.{outputs_have}
-use Rattle.kinded_binding.proofs.Joins.{lowered_bodied}
-use Rattle.kinded_binding.proofs.Groupings.{means_over}
-use Rattle.kinded_binding.proofs.Moved.{kind_alike, fit_kept}
 use Rattle.kinded_binding.proofs.Meanings.{expression_kinded}
+use Rattle.kinded_binding.proofs.Bounds.{bound_kinded, declared_kinded}
+use Rattle.kinded_binding.proofs.Spelled.{spelled}
 use Rattle.kinded_binding.proofs.law.kinded_law.Goals as goal
 
 pub returns : goal.returns
-returns c = record { expressions = λ columns e t h q. expression_kinded columns e t h q }
+returns c = record {
+  expressions = λ columns e t h q. expression_kinded columns e t h q;
+  queries = λ script schemas ts q t w h e. (bound_kinded script schemas ts q t w h e).body;
+  names = λ script schemas ts q t w h e. (bound_kinded script schemas ts q t w h e).names;
+  spelled = λ text tokens script q p e. (declared_kinded script q (spelled text tokens script p) e).body;
+}
