@@ -10,13 +10,13 @@ use Rattle.physical_plan.specs.Counts.{counts_of}
 use Rattle.physical_plan.specs.Layout.{shape, numbers}
 use Rattle.physical_plan.proofs.Shapes.{is_shape}
 use Rattle.logical_plan.specs.Items.{Item, of_rows}
-use Rattle.task_trees.specs.Trees.{poll, Ends, gave_of}
-use Rattle.task_trees.specs.Linked.{whole}
-use Rattle.task_trees.specs.Tasks.{Split, Task, IsOut}
-use Rattle.task_trees.specs.Runs.{State, the_task, IsReached}
-use Rattle.task_trees.proofs.Wholes.{whole_of}
-use Rattle.whole_contents.specs.Whole.{past_in, tree_in, AreFull}
-use Rattle.whole_contents.proofs.Flows.{flows}
+use Rattle.tree_laws.specs.Trees.{poll, Ends, gave_of}
+use Rattle.tree_laws.specs.Linked.{whole}
+use Rattle.tree_laws.specs.Tasks.{Split, Task, IsOut}
+use Rattle.tree_laws.specs.Runs.{State, the_task, IsReached}
+use Rattle.tree_laws.proofs.Wholes.{whole_of}
+use Rattle.content_laws.specs.Whole.{past_in, tree_in, AreFull}
+use Rattle.content_laws.proofs.Flows.{flows}
 use Rattle.plan_tasks.specs.Trees.{Doing, Seed, partitions_of}
 use Rattle.plan_tasks.specs.Tops.{Written, top, tops}
 use Rattle.plan_tasks.specs.Starts.{tasks_by, tasks_in, start_of, split_by, consumers_in}

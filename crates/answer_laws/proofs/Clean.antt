@@ -3,7 +3,7 @@ use Rattle.std.specs.List.{sum_by}
 use Rattle.std.proofs.Common.{ℕ, ◌≡◌, refl, sym, ◌∙◌, List, [], ◌∷◌, Ok, Err, arith}
 use Rattle.std.proofs.lemmas.List.Sums.{sum_by-cons}
 use Rattle.logical_plan.specs.Items.{Cells, Item, of_rows, faults}
-use Rattle.whole_contents.specs.Bags.{Alike}
+use Rattle.content_laws.specs.Bags.{Alike}
 
 abbrev fault_weight : Item → ℕ
 fault_weight (Ok row) = 0

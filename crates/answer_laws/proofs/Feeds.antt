@@ -4,28 +4,28 @@ use Rattle.std.proofs.Common.{ℕ, zero, suc, ◌+◌, ◌<◌, ◌≡◌, refl,
 use Rattle.std.proofs.lemmas.List.{length-append, append-nil}
 use Rattle.std.proofs.lemmas.List.Sums.{sum_by-append}
 use Rattle.run_journal.specs.declared.entry.Entry.{Entry}
-use Rattle.core_frame.specs.Shape.{task_at, is_group, width}
+use Rattle.task_shape.specs.Shape.{task_at, is_group, width}
 use Rattle.physical_plan.specs.declared.plan.Plan.{Plan}
 use Rattle.physical_plan.specs.Layout.{shape, numbers, numbers_from}
 use Rattle.physical_plan.proofs.Shapes.{is_shape}
-use Rattle.run_histories.specs.Histories.{Past}
+use Rattle.history_laws.specs.Histories.{Past}
 use Rattle.logical_plan.specs.Items.{Cells, Item, of_rows, concat}
-use Rattle.task_trees.specs.Operators.{Told, Op, IsFront, Reads, ReadsAll}
-use Rattle.task_trees.specs.Trees.{Desk, Tree, Nothing, Files, Inlet, Node, Form, form, gave_of}
-use Rattle.task_trees.specs.Linked.{IsLinked, whole, waiting, IsFlow}
-use Rattle.task_trees.specs.Tasks.{Split, Task}
-use Rattle.task_trees.specs.Runs.{State, the_task, IsReached}
-use Rattle.task_trees.proofs.Wholes.{whole_of}
-use Rattle.task_trees.proofs.Fronts.{of_rows-append}
-use Rattle.whole_contents.specs.Bags.{sum_below}
-use Rattle.whole_contents.specs.Subsequences.{IsSubsequence}
-use Rattle.whole_contents.specs.Senders.{Deal, SendsOnly}
-use Rattle.whole_contents.specs.SenderKinds.{hash_split, hash_deal, is_at}
-use Rattle.whole_contents.specs.Whole.{past_in, tree_in, AreFull}
-use Rattle.whole_contents.proofs.Bags.{sums_same, sums_front}
-use Rattle.whole_contents.proofs.Flows.{flows}
-use Rattle.whole_contents.proofs.Exchanges.{exchanged, passed_at, only_sender as sent_alone, lone_sender as sent_in_order}
-use Rattle.whole_contents.proofs.SenderKinds.{hash_only}
+use Rattle.tree_laws.specs.Operators.{Told, Op, IsFront, Reads, ReadsAll}
+use Rattle.tree_laws.specs.Trees.{Desk, Tree, Nothing, Files, Inlet, Node, Form, form, gave_of}
+use Rattle.tree_laws.specs.Linked.{IsLinked, whole, waiting, IsFlow}
+use Rattle.tree_laws.specs.Tasks.{Split, Task}
+use Rattle.tree_laws.specs.Runs.{State, the_task, IsReached}
+use Rattle.tree_laws.proofs.Wholes.{whole_of}
+use Rattle.tree_laws.proofs.Fronts.{of_rows-append}
+use Rattle.content_laws.specs.Bags.{sum_below}
+use Rattle.content_laws.specs.Subsequences.{IsSubsequence}
+use Rattle.content_laws.specs.Senders.{Deal, SendsOnly}
+use Rattle.content_laws.specs.SenderKinds.{hash_split, hash_deal, is_at}
+use Rattle.content_laws.specs.Whole.{past_in, tree_in, AreFull}
+use Rattle.content_laws.proofs.Bags.{sums_same, sums_front}
+use Rattle.content_laws.proofs.Flows.{flows}
+use Rattle.content_laws.proofs.Exchanges.{exchanged, passed_at, only_sender as sent_alone, lone_sender as sent_in_order}
+use Rattle.content_laws.proofs.SenderKinds.{hash_only}
 use Rattle.plan_tasks.specs.Trees.{Doing, Seed, leaf, partitions_of}
 use Rattle.plan_tasks.specs.Tops.{Way, Top, all_tops, tops, top, Written, width_by}
 use Rattle.plan_tasks.specs.Starts.{seeds_of, start_of, split_by}

@@ -13,18 +13,18 @@ use Rattle.physical_plan.specs.declared.plan.Plan.TheViews.{roll-Plan}
 use Rattle.physical_plan.specs.Counts.{counts_of}
 use Rattle.physical_plan.specs.Layout.{shape}
 use Rattle.physical_plan.proofs.Shapes.{is_shape}
-use Rattle.run_histories.specs.Histories.{Past}
+use Rattle.history_laws.specs.Histories.{Past}
 use Rattle.logical_plan.specs.Items.{Cells, Item, rows}
 use Rattle.logical_plan.specs.Allowed.{Allows}
-use Rattle.task_trees.specs.Operators.{Told, Op}
-use Rattle.task_trees.specs.OperatorKinds.{limit_op}
-use Rattle.task_trees.specs.Trees.{Desk, Tree, Nothing, Files, Inlet, Node, Form, NoForm, NodeForm, form, poll, Ends, gave_of}
-use Rattle.task_trees.specs.Linked.{whole, IsLinked, IsFlow}
-use Rattle.task_trees.specs.Tasks.{Task}
-use Rattle.task_trees.specs.Runs.{State, the_task, IsReached}
-use Rattle.task_trees.proofs.Wholes.{whole_of}
-use Rattle.whole_contents.specs.Whole.{past_in, tree_in, AreFull}
-use Rattle.whole_contents.proofs.Flows.{flows}
+use Rattle.tree_laws.specs.Operators.{Told, Op}
+use Rattle.tree_laws.specs.OperatorKinds.{limit_op}
+use Rattle.tree_laws.specs.Trees.{Desk, Tree, Nothing, Files, Inlet, Node, Form, NoForm, NodeForm, form, poll, Ends, gave_of}
+use Rattle.tree_laws.specs.Linked.{whole, IsLinked, IsFlow}
+use Rattle.tree_laws.specs.Tasks.{Task}
+use Rattle.tree_laws.specs.Runs.{State, the_task, IsReached}
+use Rattle.tree_laws.proofs.Wholes.{whole_of}
+use Rattle.content_laws.specs.Whole.{past_in, tree_in, AreFull}
+use Rattle.content_laws.proofs.Flows.{flows}
 use Rattle.plan_tasks.specs.Trees.{Doing, Seed, leaf, node, passing, partitions_of}
 use Rattle.plan_tasks.specs.Tops.{Top, Written, top, tops}
 use Rattle.plan_tasks.specs.Starts.{start_of}
@@ -35,11 +35,11 @@ use Rattle.plan_tasks.proofs.Laws.{grown, topped}
 use Rattle.plan_tasks.proofs.Placed.{placed}
 use Rattle.plan_tasks.proofs.Senders.{are_senders}
 use Rattle.plan_tasks.proofs.Widths.{width_counts}
-use Rattle.sorted_answers.proofs.Roots.{limit_root}
+use Rattle.sort_laws.proofs.Roots.{limit_root}
 use Rattle.answer_laws.specs.Gives.{Gives, AllGive}
 use Rattle.answer_laws.specs.Fed.{AllFed}
 use Rattle.answer_laws.specs.Kept.{IsKept}
-use Rattle.whole_contents.specs.Bags.{Alike}
+use Rattle.content_laws.specs.Bags.{Alike}
 use Rattle.answer_laws.proofs.Feeds.{gives, fed}
 use Rattle.answer_laws.proofs.Recursion.{recursion}
 use Rattle.answer_laws.proofs.Answer.{root_out}

@@ -23,14 +23,14 @@ use Rattle.physical_plan.specs.Layout.{numbers}
 use Rattle.logical_plan.specs.Items.{Cells, Item, rows, concat, filtered, projected}
 use Rattle.logical_plan.specs.Joins.{joined}
 use Rattle.logical_plan.specs.Body.{Tables}
-use Rattle.whole_contents.specs.Bags.{SameBag, sum_below, together, Alike}
-use Rattle.whole_contents.proofs.Bags.{sums_front}
-use Rattle.task_trees.specs.Trees.{in_files}
+use Rattle.content_laws.specs.Bags.{SameBag, sum_below, together, Alike}
+use Rattle.content_laws.proofs.Bags.{sums_front}
+use Rattle.tree_laws.specs.Trees.{in_files}
 use Rattle.plan_tasks.specs.Trees.{Doing, dealt_files}
 use Rattle.answer_laws.specs.Gives.{Answers, AllAnswer, AllJoin}
 use Rattle.answer_laws.specs.Kept.{AllHold, IsKept}
 use Rattle.answer_laws.specs.Meant.{Grouping, Meaning, answered, meant_node, meaning_of, grouping, Phases, TellsBy, Tells, files_of, is_whole, all_told, same_numbers, same_call, same_calls, finishes, told_node, is_told}
-use Rattle.two_phases.specs.Phases.{AreApart}
+use Rattle.phase_laws.specs.Phases.{AreApart}
 use Rattle.answer_laws.specs.Parted.{part, LawsOfParts, Delivers}
 use Rattle.answer_laws.specs.Answering.{IsInput, IsAnswering}
 use Rattle.answer_laws.proofs.Weights.{concat-append, flat_weighs, map_weighs, flat-append, weighed, together_weighs, together_concat, together_all, dealt, listed}

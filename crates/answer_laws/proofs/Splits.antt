@@ -2,8 +2,8 @@
 use Rattle.std.proofs.Common.{ℕ, zero, suc, ◌+◌, ◌≡◌, refl, ap, ◌∙◌, subst, List, [], ◌∷◌, ◌++◌, length, get_or, map, Bool}
 use Rattle.physical_plan.specs.Layout.{numbers}
 use Rattle.logical_plan.specs.Items.{Item}
-use Rattle.task_trees.specs.Operators.{Op}
-use Rattle.task_trees.specs.Trees.{File, Tree, Nothing, form, in_files}
+use Rattle.tree_laws.specs.Operators.{Op}
+use Rattle.tree_laws.specs.Trees.{File, Tree, Nothing, form, in_files}
 use Rattle.plan_tasks.specs.Trees.{Seed, node, inlet, leaf, scanning, passing, holding, pairing, paired, merged}
 use Rattle.answer_laws.specs.Gives.{channels, Gives, AllGive, Answers, AllAnswer, AllJoin}
 

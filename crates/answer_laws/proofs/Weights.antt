@@ -5,10 +5,10 @@ use Rattle.std.proofs.Common.{ℕ, zero, suc, ◌+◌, ◌<◌, ◌≡◌, refl,
 use Rattle.std.proofs.lemmas.List.Sums.{sum_by-cons, sum_by-append}
 use Rattle.physical_plan.specs.Layout.{numbers, numbers_from}
 use Rattle.logical_plan.specs.Items.{Item, concat}
-use Rattle.task_trees.specs.Operators.{Told, IsSplit, ReadsAll, Op}
-use Rattle.whole_contents.specs.Bags.{SameBag, sum_below, together, Alike}
-use Rattle.whole_contents.proofs.Bags.{sums_same, sums_add, sums_zero, sums_at, sums_front}
-use Rattle.task_trees.specs.Trees.{in_files}
+use Rattle.tree_laws.specs.Operators.{Told, IsSplit, ReadsAll, Op}
+use Rattle.content_laws.specs.Bags.{SameBag, sum_below, together, Alike}
+use Rattle.content_laws.proofs.Bags.{sums_same, sums_add, sums_zero, sums_at, sums_front}
+use Rattle.tree_laws.specs.Trees.{in_files}
 use Rattle.plan_tasks.specs.Trees.{dealt_files}
 use Rattle.answer_laws.specs.Gives.{AllAnswer}
 

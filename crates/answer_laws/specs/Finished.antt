@@ -5,7 +5,7 @@ use Rattle.core_frame.specs.Frame.{place_of}
 use Rattle.core_frame.specs.declared.place.Place.TheVariants.{Done}
 use Rattle.physical_plan.specs.declared.plan.Plan.{Plan}
 use Rattle.physical_plan.specs.Layout.{shape}
-use Rattle.task_trees.specs.Runs.{State, IsReached}
+use Rattle.tree_laws.specs.Runs.{State, IsReached}
 use Rattle.plan_tasks.specs.Trees.{Doing}
 use Rattle.plan_tasks.specs.Starts.{start_of}
 

@@ -13,10 +13,10 @@ use Rattle.physical_plan.specs.declared.plan.Plan.TheOpen.{Plan-F}
 use Rattle.physical_plan.specs.declared.plan.Plan.TheViews.{roll-Plan}
 use Rattle.physical_plan.specs.Layout.{numbers}
 use Rattle.logical_plan.specs.Items.{Item, concat}
-use Rattle.whole_contents.specs.Bags.{SameBag}
-use Rattle.whole_contents.specs.Subsequences.{IsSubsequence}
-use Rattle.whole_contents.specs.SenderKinds.{is_at}
-use Rattle.task_trees.specs.Trees.{in_files}
+use Rattle.content_laws.specs.Bags.{SameBag}
+use Rattle.content_laws.specs.Subsequences.{IsSubsequence}
+use Rattle.content_laws.specs.SenderKinds.{is_at}
+use Rattle.tree_laws.specs.Trees.{in_files}
 use Rattle.plan_tasks.specs.Trees.{Doing, dealt_files}
 use Rattle.plan_tasks.specs.Tops.{ByHash, way_to}
 use Rattle.answer_laws.specs.Gives.{Answers, AllAnswer, AllJoin}

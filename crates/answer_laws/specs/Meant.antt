@@ -13,7 +13,7 @@ use Rattle.logical_plan.specs.Items.{Cells, Item, rows, concat, filter_items, pr
 use Rattle.logical_plan.specs.Joins.{joined}
 use Rattle.logical_plan.specs.Groups.{aggregated}
 use Rattle.logical_plan.specs.Body.{Tables, scan, item_kinds, key_kinds, call_kinds}
-use Rattle.whole_contents.specs.Bags.{SameBag, Alike}
+use Rattle.content_laws.specs.Bags.{SameBag, Alike}
 
 -- groups between their two phases: the columns of their keys, their calls, and the kinds of the rows that are grouped
 pub record Grouping : Type 0 where

@@ -12,9 +12,9 @@ use Rattle.physical_plan.specs.Layout.{numbers}
 use Rattle.logical_plan.specs.Items.{Item, rows, concat}
 use Rattle.logical_plan.specs.Joins.{joined}
 use Rattle.logical_plan.specs.Groups.{aggregated, distinct}
-use Rattle.whole_contents.specs.Bags.{SameBag, together, Alike}
-use Rattle.two_phases.specs.Phases.{AreApart}
-use Rattle.join_parts.specs.Joining.{AreMatched}
+use Rattle.content_laws.specs.Bags.{SameBag, together, Alike}
+use Rattle.phase_laws.specs.Phases.{AreApart}
+use Rattle.join_laws.specs.Joining.{AreMatched}
 use Rattle.answer_laws.specs.Meant.{Grouping, Phases}
 
 abbrev pub part : List (List Item) → ℕ → List Item

@@ -9,7 +9,7 @@ use Rattle.run_journal.specs.declared.entry.EntryKind.TheVariants.{Claimed, Fini
 use Rattle.run_journal.specs.SameKind.{same_kind}
 use Rattle.fair_pool.specs.Share.{Pool, can_spill, held_by, grants}
 use Rattle.gate_channels.specs.Gate.{Channel, Gate, Moved, channel_at, is_empty, is_open, put, after_send, sent, after_taking, received, ended, dropped, held, awaited}
-use Rattle.core_frame.specs.Shape.{Shape, task_at, width}
+use Rattle.task_shape.specs.Shape.{Shape, task_at, width}
 use Rattle.core_frame.specs.declared.place.Place.{Place}
 use Rattle.core_frame.specs.declared.place.Place.TheVariants.{Woken}
 use Rattle.core_frame.specs.Frame.{Frame, place_of, gate_of, channel_of, is_owned, open_channel, open_gate, opening}

@@ -2,9 +2,9 @@
 use Rattle.std.proofs.Common.{ℕ, ◌≡◌, inl, inr, refl, sym, ap, ◌∙◌, subst, List, [], ◌∷◌, map, length}
 use Rattle.std.proofs.lemmas.List.{length-map}
 use Rattle.run_journal.specs.declared.entry.Entry.{Entry}
-use Rattle.gate_channels.specs.Tasks.{count}
+use Rattle.task_shape.specs.Numbers.{count}
 use Rattle.gate_channels.specs.Gate.{Channel, Gate, channel_at, one_of}
-use Rattle.core_frame.specs.Shape.{Shape}
+use Rattle.task_shape.specs.Shape.{Shape}
 use Rattle.core_frame.specs.declared.place.Place.{Place}
 use Rattle.core_frame.specs.declared.place.Place.TheVariants.{Woken, OwnedBy, AtGate, AtChannel, Done}
 use Rattle.core_frame.specs.Frame.{Frame, gate_of, channel_of}

@@ -7,7 +7,7 @@ use Rattle.run_journal.specs.declared.cause.Cause.TheVariants.{NoMemory}
 use Rattle.run_journal.specs.declared.entry.EntryKind.TheVariants.{Claimed, Failed}
 use Rattle.run_journal.specs.SameKind.{same_kind}
 use Rattle.gate_channels.specs.Gate.{Channel, Gate, Moved, no_channel, no_gate, channel_at, put, after_send, sent, after_taking, received, ended, dropped, held, awaited}
-use Rattle.core_frame.specs.Shape.{Shape, task_at, width}
+use Rattle.task_shape.specs.Shape.{Shape, task_at, width}
 use Rattle.core_frame.specs.Frame.{Frame, place_of, gate_of, is_owned, open_channel, open_gate, opening}
 use Rattle.core_frame.specs.Step.{Need, Scan, Recv, Send, Grow, Free, Writes, Finish, Fail, wake, put_gate, moved, with_pool, move_to, progress_is, failed, drops, ends_in, ends, finished, made_send, made_send_to, made_recv, made_grow, made, may_fail, is_yielded, may_claim, owner_step, claim_step, is_over, frame_step, next_frame, frame_replay}
 use Rattle.core_frame.specs.Sent.{SendFits, SendsFit, ChannelsFit}

@@ -2,7 +2,7 @@
 use Rattle.std.specs.Prelude.{ℕ, ◌≡◌, Bool, true, Some, List, [], ◌∷◌}
 use Rattle.std.specs.List.{AllByRecursion}
 use Rattle.run_journal.specs.declared.entry.Entry.{Entry}
-use Rattle.core_frame.specs.Shape.{Shape, task_at}
+use Rattle.task_shape.specs.Shape.{Shape, task_at}
 use Rattle.core_frame.specs.Frame.{Frame, channel_of}
 use Rattle.core_frame.specs.Step.{Need, Send}
 

@@ -6,6 +6,3 @@ mod place;
 
 pub use law::{carried_law, chain_law, frame_law, lawful_opening, lawful_step, sent_law};
 pub use place::Place;
-
-#[cfg(test)]
-mod tests;

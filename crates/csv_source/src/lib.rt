@@ -10,6 +10,3 @@ mod scan;
 
 pub use refused::CsvRefused;
 pub use scan::CsvScan;
-
-#[cfg(test)]
-mod tests;

@@ -14,6 +14,3 @@ pub use memory::sink::MemSink;
 pub use memory::source::MemSource;
 pub use sink::{Sink, write_all};
 pub use source::{Failed, OutsideRefused, Source, read_all};
-
-#[cfg(test)]
-mod tests;

@@ -4,6 +4,3 @@
 mod pool;
 
 pub use pool::{Exhausted, Pool};
-
-#[cfg(test)]
-mod tests;

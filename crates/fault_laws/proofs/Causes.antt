@@ -11,18 +11,18 @@ use Rattle.run_journal.specs.declared.entry.EntryKind.{EntryKind}
 use Rattle.run_journal.specs.declared.entry.EntryKind.TheVariants.{Scanned, Freed, Wrote, Finished, Failed}
 use Rattle.gate_channels.specs.Gate.{is_empty, is_open}
 use Rattle.fair_pool.specs.Share.{held_by, can_spill, grants}
-use Rattle.core_frame.specs.Shape.{Shape, task_at}
+use Rattle.task_shape.specs.Shape.{Shape, task_at}
 use Rattle.core_frame.specs.Frame.{Frame, gate_of, channel_of, place_of, is_owned}
 use Rattle.core_frame.specs.Step.{Need, Scan, Recv, Send, Grow, Free, Writes, Finish, Fail, made, made_send, made_send_to, made_recv, made_grow, may_fail, cause_of, failed, owner_step, claim_step, frame_step, is_over}
-use Rattle.run_histories.specs.Histories.{Run, run_step, run_after}
+use Rattle.history_laws.specs.Histories.{Run, run_step, run_after}
 use Rattle.physical_plan.specs.declared.plan.Plan.{Plan}
 use Rattle.physical_plan.specs.Layout.{shape}
 use Rattle.logical_plan.specs.Items.{Cells}
 use Rattle.logical_plan.specs.Body.{Tables}
-use Rattle.task_trees.specs.Trees.{Poll, Gives, Ends, Moves, Asks, poll, FormReads, cause_at}
-use Rattle.task_trees.specs.Tasks.{Parts, Split, Task, Turn, Goes, Waits, Wait, top_turn, turn_by, turn, settled, settle}
-use Rattle.task_trees.specs.Runs.{State, the_task, wait_by, wait_for, state_after, step_by, state_step, state_replay}
-use Rattle.whole_contents.specs.Whole.{past_in}
+use Rattle.tree_laws.specs.Trees.{Poll, Gives, Ends, Moves, Asks, poll, FormReads, cause_at}
+use Rattle.tree_laws.specs.Tasks.{Parts, Split, Task, Turn, Goes, Waits, Wait, top_turn, turn_by, turn, settled, settle}
+use Rattle.tree_laws.specs.Runs.{State, the_task, wait_by, wait_for, state_after, step_by, state_step, state_replay}
+use Rattle.content_laws.specs.Whole.{past_in}
 use Rattle.plan_tasks.specs.Trees.{Doing}
 use Rattle.plan_tasks.specs.Starts.{start_of}
 use Rattle.plan_tasks.specs.Sources.{files_of}
@@ -30,13 +30,13 @@ use Rattle.plan_tasks.specs.Placed.{deal_of, HasChannels}
 use Rattle.plan_tasks.proofs.Begun.{is_start}
 use Rattle.plan_tasks.proofs.Senders.{are_senders}
 use Rattle.physical_plan.proofs.Shapes.{is_shape}
-use Rattle.task_trees.proofs.Turns.{settle_keeps}
-use Rattle.task_trees.proofs.Runs.{reached as run_reached}
-use Rattle.whole_contents.proofs.Flows.{exist, flows}
+use Rattle.tree_laws.proofs.Turns.{settle_keeps}
+use Rattle.tree_laws.proofs.Runs.{reached as run_reached}
+use Rattle.content_laws.proofs.Flows.{exist, flows}
 use Rattle.part_laws.specs.Phased.{the_phases}
 use Rattle.plan_props.specs.Meets.{Hashing}
-use Rattle.finished_plans.specs.Engine.{IsEngineBy}
-use Rattle.finished_plans.proofs.Hashes.{hashing_of}
+use Rattle.finished_laws.specs.Engine.{IsEngineBy}
+use Rattle.finished_laws.proofs.Hashes.{hashing_of}
 use Rattle.fault_laws.specs.Met.{met_of}
 use Rattle.fault_laws.specs.Trees.{Meets, FilesPass}
 use Rattle.fault_laws.specs.Found.{Found, IsIn, is_of_fault, IsToldTop}

@@ -6,12 +6,12 @@ use Rattle.std.proofs.lemmas.List.Sums.{sum_by-append, sum_by-cons}
 use Rattle.dfx_value.specs.declared.fault.ItemFault.{ItemFault}
 use Rattle.dfx_value.specs.declared.fault.ItemFault.TheVariants.{Evaluation, Csv, Arrow}
 use Rattle.core_frame.specs.Step.{Need, Fail}
-use Rattle.run_histories.specs.Histories.{Past}
+use Rattle.history_laws.specs.Histories.{Past}
 use Rattle.logical_plan.specs.Items.{Cells, Item, of_rows, faults}
-use Rattle.task_trees.specs.Operators.{Told, Op, IsFront, first_fault}
-use Rattle.task_trees.specs.Trees.{in_files, Desk, File, Tree, Nothing, Files, Inlet, Node, Poll, Gives, Ends, Moves, Asks, poll, form, cause_at, scanned, files_poll, inlet_poll, cut_poll, amount_of, offer_poll, input_poll, idle_poll, node_poll}
-use Rattle.task_trees.specs.Linked.{IsLinked, whole, IsFlow}
-use Rattle.join_parts.proofs.Items.{fails, pass_weigh}
+use Rattle.tree_laws.specs.Operators.{Told, Op, IsFront, first_fault}
+use Rattle.tree_laws.specs.Trees.{in_files, Desk, File, Tree, Nothing, Files, Inlet, Node, Poll, Gives, Ends, Moves, Asks, poll, form, cause_at, scanned, files_poll, inlet_poll, cut_poll, amount_of, offer_poll, input_poll, idle_poll, node_poll}
+use Rattle.tree_laws.specs.Linked.{IsLinked, whole, IsFlow}
+use Rattle.join_laws.proofs.Items.{fails, pass_weigh}
 use Rattle.answer_laws.proofs.Feeds.{gives, node_reads}
 use Rattle.fault_laws.specs.Trees.{is_evaluation, Meets, LeavesPass}
 use Rattle.fault_laws.specs.Found.{IsEvaluation, Found}

@@ -7,22 +7,22 @@ use Rattle.run_journal.specs.declared.cause.Cause.{Cause}
 use Rattle.run_journal.specs.declared.entry.Entry.{Entry}
 use Rattle.run_journal.specs.declared.entry.EntryKind.TheVariants.{Failed}
 use Rattle.core_frame.specs.Step.{Fail}
-use Rattle.run_histories.specs.Histories.{Past, Reply}
+use Rattle.history_laws.specs.Histories.{Past, Reply}
 use Rattle.physical_plan.specs.declared.plan.Plan.{Plan}
 use Rattle.physical_plan.specs.Layout.{shape}
 use Rattle.logical_plan.specs.declared.query.Query.{Query}
 use Rattle.logical_plan.specs.Items.{Cells, Item, faults, concat}
 use Rattle.logical_plan.specs.Body.{Tables, all_faults}
-use Rattle.task_trees.specs.Trees.{Tree, Asks, poll, form}
-use Rattle.task_trees.specs.Linked.{IsLinked, IsFlow}
-use Rattle.task_trees.specs.Runs.{State, state_step, state_replay, IsReached}
-use Rattle.whole_contents.specs.Whole.{tree_in, AreFull}
+use Rattle.tree_laws.specs.Trees.{Tree, Asks, poll, form}
+use Rattle.tree_laws.specs.Linked.{IsLinked, IsFlow}
+use Rattle.tree_laws.specs.Runs.{State, state_step, state_replay, IsReached}
+use Rattle.content_laws.specs.Whole.{tree_in, AreFull}
 use Rattle.plan_tasks.specs.Trees.{Doing, partitions_of}
 use Rattle.plan_tasks.specs.Tops.{tops}
 use Rattle.plan_tasks.specs.Starts.{start_of}
 use Rattle.plan_tasks.specs.Sources.{files_of}
 use Rattle.plan_tasks.specs.Placed.{deal_of, HasChannels}
-use Rattle.join_parts.proofs.Items.{fails, pass_weigh, pass_from}
+use Rattle.join_laws.proofs.Items.{fails, pass_weigh, pass_from}
 use Rattle.answer_laws.specs.Gives.{AllGive}
 use Rattle.answer_laws.specs.Fed.{AllFed}
 use Rattle.answer_laws.specs.Meant.{is_told}
@@ -32,13 +32,13 @@ use Rattle.answer_laws.proofs.Recursion.{recursion}
 use Rattle.part_laws.specs.Phased.{the_phases}
 use Rattle.part_laws.proofs.Lists.{parts}
 use Rattle.plan_props.specs.Meets.{Hashing}
-use Rattle.finished_plans.specs.Sound.{on_properties}
-use Rattle.finished_plans.specs.Engine.{IsEngineBy}
+use Rattle.finished_laws.specs.Sound.{on_properties}
+use Rattle.finished_laws.specs.Engine.{IsEngineBy}
 use Rattle.physical_plan.specs.Planned.{erased, everywhere, IsFinished}
 use Rattle.plan_tasks.specs.Sources.{places_of}
 use Rattle.node_laws.specs.Tests.{needs_in_range}
-use Rattle.finished_plans.specs.Known.{is_known}
-use Rattle.finished_plans.proofs.Channels.{channels}
+use Rattle.finished_laws.specs.Known.{is_known}
+use Rattle.finished_laws.proofs.Channels.{channels}
 use Rattle.kind_laws.specs.Tables.{FaultsAreNamed}
 use Rattle.fault_laws.specs.Named.{EndsAt}
 use Rattle.fault_laws.proofs.Named.{named}

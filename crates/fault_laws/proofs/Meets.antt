@@ -24,30 +24,30 @@ use Rattle.logical_plan.specs.Items.{Cells, Item, rows, faults, concat, of_rows,
 use Rattle.logical_plan.specs.Joins.{joined}
 use Rattle.logical_plan.specs.Groups.{alike, group_of, group_item, one_group, aggregated}
 use Rattle.logical_plan.specs.Body.{Tables, scan}
-use Rattle.whole_contents.specs.Bags.{SameBag, together, Alike}
-use Rattle.whole_contents.proofs.Bags.{sums_same}
-use Rattle.task_trees.specs.Trees.{in_files}
+use Rattle.content_laws.specs.Bags.{SameBag, together, Alike}
+use Rattle.content_laws.proofs.Bags.{sums_same}
+use Rattle.tree_laws.specs.Trees.{in_files}
 use Rattle.plan_tasks.specs.Trees.{Doing, dealt_files}
-use Rattle.two_phases.specs.Phases.{phase, AreApart}
-use Rattle.two_phases.proofs.Bags.{sum_by-map}
-use Rattle.two_phases.proofs.Items.{rows_both, faults_both, apart_weigh, faults-phase, alike_rows, alike_faults}
-use Rattle.two_phases.proofs.Further.{faults_kept}
-use Rattle.join_parts.specs.Joining.{join_items}
-use Rattle.join_parts.proofs.Core.{one_join}
-use Rattle.join_parts.proofs.Parts.{parts_faults}
-use Rattle.join_parts.proofs.Items.{fails, pass_weigh, pass_from, faults_weigh}
-use Rattle.join_parts.proofs.Items as items
+use Rattle.phase_laws.specs.Phases.{phase, AreApart}
+use Rattle.phase_laws.proofs.Bags.{sum_by-map}
+use Rattle.phase_laws.proofs.Items.{rows_both, faults_both, apart_weigh, faults-phase, alike_rows, alike_faults}
+use Rattle.phase_laws.proofs.Further.{faults_kept}
+use Rattle.join_laws.specs.Joining.{join_items}
+use Rattle.join_laws.proofs.Core.{one_join}
+use Rattle.join_laws.proofs.Parts.{parts_faults}
+use Rattle.join_laws.proofs.Items.{fails, pass_weigh, pass_from, faults_weigh}
+use Rattle.join_laws.proofs.Items as items
 use Rattle.answer_laws.specs.Gives.{Answers, AllAnswer, AllJoin}
 use Rattle.answer_laws.specs.Kept.{AllHold, IsKept}
 use Rattle.answer_laws.specs.Meant.{Grouping, answered, meaning_of, meant, TellsBy, files_of, is_whole, all_told, same_numbers, same_calls, finishes, told_node, is_told}
 use Rattle.answer_laws.specs.Parted.{part}
 use Rattle.answer_laws.proofs.Weights.{concat-append, flat_weighs, map_weighs, weighed, together_weighs, together_all, dealt, listed}
 use Rattle.answer_laws.proofs.Meaning.{both_true, above_zero, equal_is, all_pass, same_numbers_are, same_calls_are, told_whole, segmented, seconds, joins_weigh}
-use Rattle.finished_plans.proofs.Answers.{Standing, standing, delivers, Means, all_kept}
+use Rattle.finished_laws.proofs.Answers.{Standing, standing, delivers, Means, all_kept}
 use Rattle.part_laws.specs.Phased.{the_phases}
 use Rattle.plan_props.specs.Meets.{Hashing}
-use Rattle.finished_plans.specs.Sound.{on_properties}
-use Rattle.finished_plans.specs.Engine.{IsEngineBy}
+use Rattle.finished_laws.specs.Sound.{on_properties}
+use Rattle.finished_laws.specs.Engine.{IsEngineBy}
 use Rattle.fault_laws.specs.Met.{met_node, met_of}
 
 -- ------------------------------------------------------------ weights of faults that don't pass

@@ -9,7 +9,7 @@ use Rattle.physical_plan.specs.declared.plan.Plan.{Plan}
 use Rattle.physical_plan.specs.Layout.{numbers_from}
 use Rattle.logical_plan.specs.Items.{Item, faults}
 use Rattle.logical_plan.specs.Body.{Tables}
-use Rattle.task_trees.specs.Trees.{File}
+use Rattle.tree_laws.specs.Trees.{File}
 use Rattle.plan_tasks.specs.Trees.{Doing, sources_in}
 use Rattle.plan_tasks.specs.Sources.{files_of as plan_files, places_of, items_at}
 use Rattle.plan_tasks.proofs.Sources.{by_number, by_place}

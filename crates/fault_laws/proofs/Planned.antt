@@ -10,9 +10,9 @@ use Rattle.node_laws.specs.Tests.{needs_in_range}
 use Rattle.answer_laws.specs.Meant.{Phases}
 use Rattle.answer_laws.specs.Parted.{LawsOfParts}
 use Rattle.answer_laws.specs.Distincts.{has_distincts}
-use Rattle.finished_plans.specs.Known.{is_known}
-use Rattle.finished_plans.proofs.Told as sound_plans
-use Rattle.finished_plans.proofs.Allowed as plans
+use Rattle.finished_laws.specs.Known.{is_known}
+use Rattle.finished_laws.proofs.Told as sound_plans
+use Rattle.finished_laws.proofs.Allowed as plans
 use Rattle.fault_laws.specs.Found.{IsToldTop}
 
 pub told_top : (phases : Phases) → LawsOfParts phases → (tables : Tables) (q : Query) → has_distincts tables q.body ≡ true → (files : List ℕ) → is_known tables files q.body ≡ true → (n : ℕ) → 0 < n

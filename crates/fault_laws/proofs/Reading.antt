@@ -12,7 +12,7 @@ use Rattle.logical_plan.specs.Body.{Tables}
 use Rattle.plan_tasks.specs.Sources.{reads_node, reads_all}
 use Rattle.answer_laws.specs.Meant.{meaning_of, meant, is_whole, all_told, finishes, files_of, told_node, is_told}
 use Rattle.answer_laws.proofs.Meaning.{both_true}
-use Rattle.finished_plans.specs.Sound.{on_properties}
+use Rattle.finished_laws.specs.Sound.{on_properties}
 use Rattle.fault_laws.specs.Found.{IsToldTop}
 
 module _ (tables : Tables) (spread : Plan-F Plan → Bool) where

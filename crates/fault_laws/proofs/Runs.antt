@@ -10,13 +10,13 @@ use Rattle.physical_plan.specs.declared.plan.Plan.TheViews.{roll-Plan}
 use Rattle.physical_plan.specs.Layout.{shape, numbers}
 use Rattle.logical_plan.specs.Items.{Item, faults, concat}
 use Rattle.logical_plan.specs.Body.{Tables}
-use Rattle.task_trees.specs.Trees.{File, Tree, Nothing, Files, Inlet, Node, Form, NoForm, FilesForm, InletForm, NodeForm, form}
-use Rattle.task_trees.specs.Tasks.{Task}
-use Rattle.task_trees.specs.Runs.{State, no_task, the_task, IsReached}
-use Rattle.task_trees.specs.Operators.{Told, IsSplit, ReadsAll, Op}
-use Rattle.task_trees.specs.Linked.{whole}
-use Rattle.task_trees.specs.OperatorKinds as ops
-use Rattle.whole_contents.specs.Whole.{tree_in, AreFull}
+use Rattle.tree_laws.specs.Trees.{File, Tree, Nothing, Files, Inlet, Node, Form, NoForm, FilesForm, InletForm, NodeForm, form}
+use Rattle.tree_laws.specs.Tasks.{Task}
+use Rattle.tree_laws.specs.Runs.{State, no_task, the_task, IsReached}
+use Rattle.tree_laws.specs.Operators.{Told, IsSplit, ReadsAll, Op}
+use Rattle.tree_laws.specs.Linked.{whole}
+use Rattle.tree_laws.specs.OperatorKinds as ops
+use Rattle.content_laws.specs.Whole.{tree_in, AreFull}
 use Rattle.plan_tasks.specs.Trees.{Doing, Growing, Seed, leaf, node, partitions_of, passing, tree_of}
 use Rattle.plan_tasks.specs.Tops.{Topping, Top, tops, all_tops}
 use Rattle.plan_tasks.specs.Starts.{seeds_of, start_of, tasks_of}
@@ -28,15 +28,15 @@ use Rattle.plan_tasks.proofs.Begun.{is_start}
 use Rattle.plan_tasks.proofs.Placed.{placed}
 use Rattle.plan_tasks.proofs.Senders.{covered}
 use Rattle.plan_tasks.proofs.Sources.{all_read}
-use Rattle.join_parts.proofs.Items.{pass_weigh, pass_from}
+use Rattle.join_laws.proofs.Items.{pass_weigh, pass_from}
 use Rattle.answer_laws.specs.Gives.{AllGive}
 use Rattle.answer_laws.specs.Fed.{AllFed}
 use Rattle.answer_laws.proofs.Feeds.{fed, root_gives}
 use Rattle.answer_laws.proofs.Splits as splits
 use Rattle.part_laws.specs.Phased.{the_phases}
 use Rattle.plan_props.specs.Meets.{Hashing}
-use Rattle.finished_plans.specs.Engine.{IsEngineBy}
-use Rattle.finished_plans.proofs.Hashes.{hashing_of}
+use Rattle.finished_laws.specs.Engine.{IsEngineBy}
+use Rattle.finished_laws.proofs.Hashes.{hashing_of}
 use Rattle.fault_laws.specs.Met.{met_of}
 use Rattle.fault_laws.specs.Trees.{Evaluates, GivesOnly, Meets, AllMeet, TopsMeet, FilesPass, LeavesPass}
 use Rattle.fault_laws.specs.Found.{IsTold, IsToldTop}

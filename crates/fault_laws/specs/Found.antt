@@ -10,9 +10,9 @@ use Rattle.physical_plan.specs.declared.plan.Plan.TheOpen.{Plan-F}
 use Rattle.physical_plan.specs.declared.plan.Plan.TheViews.{roll-Plan}
 use Rattle.logical_plan.specs.Items.{faults}
 use Rattle.logical_plan.specs.Body.{Tables}
-use Rattle.task_trees.specs.Trees.{File, cause_at}
+use Rattle.tree_laws.specs.Trees.{File, cause_at}
 use Rattle.answer_laws.specs.Meant.{is_told}
-use Rattle.finished_plans.specs.Sound.{on_properties}
+use Rattle.finished_laws.specs.Sound.{on_properties}
 
 -- the fault is that of an evaluation, and so is the cause
 abbrev pub IsEvaluation : ItemFault → Cause → Type 0

@@ -3,7 +3,7 @@ use Rattle.std.specs.Prelude.{ℕ, ◌≡◌, ◌⊎◌, true, Some, List, slice
 use Rattle.dfx_value.specs.declared.fault.ItemFault.{ItemFault}
 use Rattle.run_journal.specs.declared.cause.Cause.{Cause}
 use Rattle.kind_laws.specs.Tables.{names_file}
-use Rattle.task_trees.specs.Trees.{cause_at}
+use Rattle.tree_laws.specs.Trees.{cause_at}
 use Rattle.fault_laws.specs.Found.{IsIn, IsEvaluation}
 
 -- the cause is one of these faults: of an evaluation by an operator, or one that names a file, at a source that is

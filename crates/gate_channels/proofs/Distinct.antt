@@ -5,9 +5,9 @@ use Rattle.std.specs.List.{remove}
 use Rattle.std.specs.Prelude.{Option, None, Some, IfSome}
 use Rattle.std.specs.Option.{option_to_list}
 use Rattle.std.proofs.lemmas.List.{length_push}
-use Rattle.gate_channels.specs.Tasks.{one, count, without}
-use Rattle.gate_channels.proofs.Tasks.{one_same, one_yes, one_no, same_or_not, count-append, count_without}
-use Rattle.gate_channels.specs.Tasks.{IsDistinctBelow, AreApart}
+use Rattle.task_shape.specs.Numbers.{one, count, without}
+use Rattle.task_shape.proofs.Numbers.{one_same, one_yes, one_no, same_or_not, count-append, count_without}
+use Rattle.task_shape.specs.Numbers.{IsDistinctBelow, AreApart}
 
 length_without : (t : ℕ) (xs : List ℕ) → 0 < count t xs → length xs ≡ suc (length (without t xs))
 length_without t [] h = absurd (omega arith)

@@ -1,4 +1,3 @@
-pub mod Tasks
 pub mod Distinct
 pub mod Searches
 pub mod Calls

@@ -1,7 +1,7 @@
 -- Words: what contracts see of a group, and what its calls need.
 use Rattle.std.specs.Prelude.{ℕ, ◌<◌, ◌≤◌, ◌≡◌, Bool, true, Option, Some, None, List, [], ◌∷◌, length, map}
 use Rattle.gate_channels.specs.Gate.{Channel, Gate, channel_at}
-use Rattle.gate_channels.specs.Tasks.{count, AreApart}
+use Rattle.task_shape.specs.Numbers.{count, AreApart}
 use Rattle.gate_channels.specs.Queue.{Ready}
 
 -- its gate, and for how many tasks it was made

@@ -1,5 +1,4 @@
 pub mod Gate
-pub mod Tasks
 pub mod Queue
 pub mod Group
 pub mod Answers

@@ -1,5 +1,5 @@
 ghost use Rattle.std.specs.Prelude.{◌≡◌, ℕ, ◌<◌, List, [], ◌++◌, length, IfOk, Some, map};
-ghost use Rattle.gate_channels.specs.Tasks.{count};
+ghost use Rattle.task_shape.specs.Numbers.{count};
 ghost use Rattle.gate_channels.specs.Gate.{channel_at, one_of, ended, dropped};
 ghost use Rattle.gate_channels.specs.Group.{WaitApart, KeepsSize, opened_gate};
 ghost use Rattle.gate_channels.specs.Answers.{Moves, Sends, Receives};

@@ -7,6 +7,3 @@ mod woken;
 
 pub use group::{Group, Receiving, Sending};
 pub use woken::Woken;
-
-#[cfg(test)]
-mod tests;

@@ -1,6 +1,6 @@
 ghost use Rattle.std.specs.Prelude.{◌≡◌, ℕ, ◌<◌, ◌≤◌, [], ◌∷◌, ◌++◌, length, IfOk, IfSome, IfNone, slice_index, remove};
 ghost use Rattle.std.specs.Option.{option_to_list};
-ghost use Rattle.gate_channels.specs.Tasks.{AreApart, count};
+ghost use Rattle.task_shape.specs.Numbers.{AreApart, count};
 
 use dfx_value::NoMemory;
 use std::alloc::Global;
@@ -17,7 +17,7 @@ pub struct Woken {
 impl Model for Woken {
     ghost use Rattle.std.specs.Prelude.{◌≤◌};
     ghost use Rattle.std.specs.VecDeque.{deque_capacity};
-    ghost use Rattle.gate_channels.specs.Tasks.{IsDistinctBelow};
+    ghost use Rattle.task_shape.specs.Numbers.{IsDistinctBelow};
     ghost use Rattle.gate_channels.specs.Queue.{Ready};
 
     ghost Value = { Ready };

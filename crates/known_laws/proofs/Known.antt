@@ -23,8 +23,8 @@ use Rattle.kind_laws.proofs.Bodies.{scan_gives, kinded_rolled, giving}
 use Rattle.kind_laws.proofs.Files.{tables_fit, tables_counted}
 use Rattle.answer_laws.specs.Meant.{files_of}
 use Rattle.answer_laws.specs.Distincts.{distinct_node, has_distincts}
-use Rattle.finished_plans.specs.Sound.{are_wide}
-use Rattle.finished_plans.specs.Known.{is_kinded, known_node, is_known}
+use Rattle.finished_laws.specs.Sound.{are_wide}
+use Rattle.finished_laws.specs.Known.{is_kinded, known_node, is_known}
 
 -- ---- scans
 

@@ -7,7 +7,7 @@ ghost use Rattle.scan_run.specs.Sources.{CsvTable, tables_from};
 ghost use Rattle.kind_laws.specs.Kinded.{is_well_kinded};
 ghost use Rattle.kind_laws.specs.Tables.{TablesHave, table_kinds, file_counts};
 ghost use Rattle.answer_laws.specs.Distincts.{has_distincts};
-ghost use Rattle.finished_plans.specs.Known.{is_known};
+ghost use Rattle.finished_laws.specs.Known.{is_known};
 
 /// A well-kinded body over tables of the scans' kinds is one of which the answers of finished plans are told: each
 /// DISTINCT is over rows of its kinds and at least one column (`distincts`); each scan is of a table with so many

@@ -10,8 +10,8 @@ use Rattle.dfx_value.specs.declared.op.AggCall.{AggCall}
 use Rattle.logical_plan.specs.Items.{Cells, Item, rows, faults, of_rows, of_faults, concat}
 use Rattle.logical_plan.specs.Groups.{alike, aggregated, group_item, group_of, one_group}
 use Rattle.scalar_exprs.specs.Groups.{key_list, firsts}
-use Rattle.whole_contents.specs.Bags.{SameBag, together, Alike}
-use Rattle.two_phases.specs.Phases.{grouped, phase, phase_rows, final, final_item, one_final, AreApart}
+use Rattle.content_laws.specs.Bags.{SameBag, together, Alike}
+use Rattle.phase_laws.specs.Phases.{grouped, phase, phase_rows, final, final_item, one_final, AreApart}
 use Rattle.answer_laws.proofs.Weights.{map_weighs}
 
 abbrev blank : ItemFault

@@ -4,7 +4,7 @@ use Rattle.physical_plan.specs.declared.plan.Plan.{Plan}
 use Rattle.physical_plan.specs.declared.plan.Plan.TheOpen.{Plan-F}
 use Rattle.logical_plan.specs.Items.{Cells}
 use Rattle.logical_plan.specs.Body.{Tables}
-use Rattle.task_trees.specs.OperatorKinds.{end_op}
+use Rattle.tree_laws.specs.OperatorKinds.{end_op}
 use Rattle.plan_tasks.specs.Reading.{AreOperators}
 use Rattle.plan_tasks.proofs.Operators.{are_operators}
 use Rattle.answer_laws.specs.Meant.{Grouping, files_of}

@@ -9,13 +9,13 @@ use Rattle.physical_plan.specs.Layout.{numbers}
 use Rattle.logical_plan.specs.Items.{Item, rows, concat}
 use Rattle.logical_plan.specs.Groups.{aggregated}
 use Rattle.logical_plan.specs.Joins.{joined}
-use Rattle.whole_contents.specs.Bags.{SameBag, together, Alike}
-use Rattle.two_phases.specs.Phases.{phase, phase_kinds, final, AreApart}
-use Rattle.two_phases.proofs.Items.{two_phases}
-use Rattle.two_phases.proofs.Distinct.{distinct_is}
-use Rattle.join_parts.specs.Joining.{join_items, AreMatched}
-use Rattle.join_parts.proofs.Core.{one_join}
-use Rattle.join_parts.proofs.Parts.{parts_alike}
+use Rattle.content_laws.specs.Bags.{SameBag, together, Alike}
+use Rattle.phase_laws.specs.Phases.{phase, phase_kinds, final, AreApart}
+use Rattle.phase_laws.proofs.Items.{two_phases}
+use Rattle.phase_laws.proofs.Distinct.{distinct_is}
+use Rattle.join_laws.specs.Joining.{join_items, AreMatched}
+use Rattle.join_laws.proofs.Core.{one_join}
+use Rattle.join_laws.proofs.Parts.{parts_alike}
 use Rattle.answer_laws.specs.Meant.{Grouping}
 use Rattle.answer_laws.specs.Parted.{LawsOfParts}
 use Rattle.part_laws.specs.Phased.{the_phases}

@@ -6,8 +6,8 @@ use Rattle.logical_plan.specs.Items.{Cells, Item, filtered, projected}
 use Rattle.logical_plan.specs.Body.{Tables}
 use Rattle.plan_tasks.specs.Trees.{Doing}
 use Rattle.plan_tasks.specs.Operators.{NodeItems, operator_of}
-use Rattle.sorted_answers.specs.Sorting.{item_before, sort_items}
-use Rattle.join_parts.specs.Joining.{probe, last}
+use Rattle.sort_laws.specs.Sorting.{item_before, sort_items}
+use Rattle.join_laws.specs.Joining.{probe, last}
 use Rattle.answer_laws.specs.Meant.{Grouping, grouping, meaning_of, files_of}
 use Rattle.part_laws.specs.Phased.{the_phases}
 use Rattle.part_laws.specs.Made.{Amount}

@@ -16,7 +16,7 @@ ghost use Rattle.part_laws.specs.Doing.{the_doing};
 /// each as often, and as many faults as grouping means of items that the segments of the first phase are alike to; joins of
 /// partitions give together those of the join; and DISTINCT is grouping by all columns (`lists`).
 ///
-/// Operators of the kinds that task_trees has, with these phases, joins, sorts and merges, owe what answers ask of them
+/// Operators of the kinds that tree_laws has, with these phases, joins, sorts and merges, owe what answers ask of them
 /// (`answering`); and there are such, for all nodes of all plans (`doing`).
 pub fn parts_law()
     ensures lists { LawsOfParts the_phases }

@@ -8,7 +8,7 @@ use Rattle.physical_plan.specs.declared.plan.Plan.TheOpen.{Plan-F}
 use Rattle.physical_plan.specs.declared.plan.Plan.TheViews.{roll-Plan}
 use Rattle.physical_plan.specs.declared.plan.Plan.TheFolds.{fold-roll-Plan, map-Plan, ind-Plan}
 use Rattle.physical_plan.specs.Layout.{Part, Stage, Laid, Laying, laid, bare, lay, layout, numbers, numbers_from, consuming, beside, reader, readers, merger, opened, laid_beside, laid_after, with_consumer, end_to_end, tasks_of, tail_of, tasks_from, spills_of, stages_of, shape}
-use Rattle.core_frame.specs.Shape.{TaskShape, no_task, task_at, Ascends}
+use Rattle.task_shape.specs.Shape.{TaskShape, no_task, task_at, Ascends}
 
 -- the channels ascend, of groups from k on and below m
 abbrev Among : ℕ → ℕ → List (ℕ × ℕ) → Type 0

@@ -1,7 +1,7 @@
 -- Each stage has as many tasks as are counted.
 use Rattle.std.proofs.Common.{ℕ, zero, suc, ◌+◌, ◌-◌, ◌<◌, ◌≤◌, ◌≡◌, refl, sym, ap, ◌∙◌, subst, Bool, true, false, Option, List, [], ◌∷◌, ◌++◌, length, map, max, drop, slice_set, append_assoc, arith, zero-add}
 use Rattle.plan_props.specs.Satisfies.{partition_count}
-use Rattle.core_frame.specs.Shape.{TaskShape}
+use Rattle.task_shape.specs.Shape.{TaskShape}
 use Rattle.physical_plan.specs.declared.plan.Plan.{Plan}
 use Rattle.physical_plan.specs.declared.plan.Plan.TheOpen.{Plan-F}
 use Rattle.physical_plan.specs.declared.plan.Plan.TheVariants.{Scan, HashJoin}

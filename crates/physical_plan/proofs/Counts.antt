@@ -4,8 +4,8 @@ use Rattle.std.proofs.Common.{ℕ, zero, suc, ◌+◌, ◌<◌, ◌≤◌, ◌�
 use Rattle.std.proofs.lemmas.Bool.{false≢true, cases_lt}
 use Rattle.std.proofs.lemmas.Bool.Decides.{eqb_tells, nat_tests}
 use Rattle.physical_plan.specs.Layout.{Part, Stage, Laid, laid, bare, numbers, numbers_from, consuming, beside, reader, readers, merger, opened, exchanged, coalesced, merging, laid_beside, laid_after, with_consumer}
-use Rattle.gate_channels.specs.Tasks.{count}
-use Rattle.core_frame.specs.Shape.{has}
+use Rattle.task_shape.specs.Numbers.{count}
+use Rattle.task_shape.specs.Shape.{has}
 
 abbrev pub pair_one : ℕ × ℕ → ℕ → ℕ → ℕ
 pair_one x g c = cond ((x.0 == g) && (x.1 == c)) 1 0

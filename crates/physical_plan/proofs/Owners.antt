@@ -6,7 +6,7 @@ use Rattle.std.proofs.lemmas.Bool.{false≢true}
 use Rattle.std.proofs.lemmas.Bool.Decides.{nat_tests}
 use Rattle.physical_plan.specs.declared.plan.Plan.{Plan}
 use Rattle.physical_plan.specs.Layout.{Part, Stage, layout, numbers, numbers_from, tasks_of, tasks_from, spills_of, spills_from, stages_of, shape, tail_of}
-use Rattle.core_frame.specs.Shape.{TaskShape, has, no_task, HasOwners}
+use Rattle.task_shape.specs.Shape.{TaskShape, has, no_task, HasOwners}
 use Rattle.physical_plan.proofs.Counts.{has_count, count-numbers_from}
 
 -- consumers are numbered from c on, task by task, up to d

@@ -9,8 +9,8 @@ use Rattle.physical_plan.specs.declared.plan.Plan.TheViews.{roll-Plan}
 use Rattle.physical_plan.specs.declared.plan.Plan.TheFolds.{fold-roll-Plan, map-Plan, ind-Plan}
 use Rattle.plan_props.specs.Satisfies.{partition_count}
 use Rattle.physical_plan.specs.Layout.{Part, Stage, Laying, lay, layout, end_to_end, tasks_of, tasks_from, widths_of, stages_of, shape_from, shape, group_of, head_or, tail_of, spills_of}
-use Rattle.gate_channels.specs.Tasks.{count}
-use Rattle.core_frame.specs.Shape.{TaskShape, IsShape, no_task, names, has, is_group}
+use Rattle.task_shape.specs.Numbers.{count}
+use Rattle.task_shape.specs.Shape.{TaskShape, IsShape, no_task, names, has, is_group}
 use Rattle.physical_plan.proofs.Counts.{pair_count, parts_count, stages_count, expected, From, Grow, Aims, AllAim, Sent, IsLaid, scan_laid, consumer_laid, beside_laid, after_laid, exchanged_laid, coalesced_laid, merging_laid}
 
 -- ---- every plan is laid

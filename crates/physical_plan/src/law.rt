@@ -5,7 +5,7 @@ ghost use Rattle.dfx_value.specs.declared.rows.SortKey.{SortKey as Key};
 ghost use Rattle.dfx_value.specs.declared.op.JoinKind.TheVariants.{Left as LeftJoin, Inner as InnerJoin};
 ghost use Rattle.plan_props.specs.declared.properties.Partitioning.TheVariants.{Hash as ByHash};
 ghost use Rattle.plan_props.specs.Meets.{Hashing, Row, Meets};
-ghost use Rattle.core_frame.specs.Shape.{Ascends, HasOwners, IsShape, TaskShape, task_at};
+ghost use Rattle.task_shape.specs.Shape.{Ascends, HasOwners, IsShape, TaskShape, task_at};
 ghost use Rattle.physical_plan.specs.declared.plan.Plan.{Plan as APlan};
 ghost use Rattle.physical_plan.specs.declared.properties.Declared.{Declared as Said};
 ghost use Rattle.physical_plan.specs.Properties.{filtered, projected, sorted, repartitioned, united, hash_joined};

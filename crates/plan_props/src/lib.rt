@@ -11,6 +11,3 @@ pub use distribution::{partition_count, satisfies_distribution};
 pub use laws::{chains_law, distribution_law, order_law};
 pub use ordering::satisfies_order;
 pub use properties::{Distribution, Partitioning, Props};
-
-#[cfg(test)]
-mod tests;

@@ -2,7 +2,7 @@
 use Rattle.std.proofs.Common.{ℕ, zero, suc, ◌+◌, ◌-◌, ◌<◌, ◌≤◌, ◌≡◌, refl, sym, ap, ◌∙◌, List, [], ◌∷◌, ◌++◌, length, min, drop, replicate, append_assoc, arith}
 use Rattle.std.specs.Prelude.{slice_index_or}
 use Rattle.std.proofs.lemmas.List.{drop_more}
-use Rattle.core_frame.specs.Shape.{TaskShape}
+use Rattle.task_shape.specs.Shape.{TaskShape}
 use Rattle.physical_plan.specs.Layout.{Part, bare, numbers_from, beside, head_or, tail_of, tasks_of}
 use Rattle.plan_shape.specs.Tasked.{tasked}
 

@@ -1,6 +1,6 @@
 -- Words: the task of one part.
 use Rattle.std.specs.Prelude.{ℕ, List, length}
-use Rattle.core_frame.specs.Shape.{TaskShape}
+use Rattle.task_shape.specs.Shape.{TaskShape}
 use Rattle.physical_plan.specs.Layout.{Part, group_of, numbers_from}
 
 -- of a stage, with the number of its first consumer, and its targets

@@ -21,7 +21,7 @@ pub struct PlanShape {
 }
 
 impl Model for PlanShape {
-    ghost use Rattle.core_frame.specs.Shape.{Shape};
+    ghost use Rattle.task_shape.specs.Shape.{Shape};
 
     ghost Value = { Shape };
 

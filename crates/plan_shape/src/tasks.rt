@@ -22,7 +22,7 @@ pub struct TaskShape {
 }
 
 impl Model for TaskShape {
-    ghost use Rattle.core_frame.specs.Shape.{TaskShape};
+    ghost use Rattle.task_shape.specs.Shape.{TaskShape};
 
     ghost Value = { TaskShape };
 

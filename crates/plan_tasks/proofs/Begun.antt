@@ -4,16 +4,16 @@ use Rattle.std.proofs.Common.{ℕ, zero, suc, ◌+◌, ◌<◌, ◌≡◌, refl,
 use Rattle.std.proofs.lemmas.Bool.{false≢true}
 use Rattle.physical_plan.specs.declared.plan.Plan.{Plan}
 use Rattle.physical_plan.specs.Layout.{Part, Stage, layout, numbers_from, tasks_of, tasks_from, spills_of, shape, group_of, head_or, tail_of}
-use Rattle.core_frame.specs.Shape.{TaskShape, names, has, no_task}
+use Rattle.task_shape.specs.Shape.{TaskShape, names, has, no_task}
 use Rattle.logical_plan.specs.Items.{Cells}
-use Rattle.task_trees.specs.Trees.{Tree, HasInlet, HasConsumer, gave_of}
-use Rattle.task_trees.specs.Tasks.{Split, Task, IsTask, IsOut}
-use Rattle.task_trees.specs.Runs.{the_task, AllTo, IsStart, no_task as nobody}
-use Rattle.task_trees.specs.Batches.{SendsRows, IsFilled, AreFilled}
-use Rattle.task_trees.specs.Held.{IsApart, IsHolding}
-use Rattle.task_trees.specs.Exits.{HeadsOwn}
-use Rattle.whole_contents.specs.SenderKinds.{whole_split, hash_split}
-use Rattle.whole_contents.proofs.Received.{whole_rows, hash_rows}
+use Rattle.tree_laws.specs.Trees.{Tree, HasInlet, HasConsumer, gave_of}
+use Rattle.tree_laws.specs.Tasks.{Split, Task, IsTask, IsOut}
+use Rattle.tree_laws.specs.Runs.{the_task, AllTo, IsStart, no_task as nobody}
+use Rattle.tree_laws.specs.Batches.{SendsRows, IsFilled, AreFilled}
+use Rattle.tree_laws.specs.Held.{IsApart, IsHolding}
+use Rattle.tree_laws.specs.Exits.{HeadsOwn}
+use Rattle.content_laws.specs.SenderKinds.{whole_split, hash_split}
+use Rattle.content_laws.proofs.Received.{whole_rows, hash_rows}
 use Rattle.plan_tasks.specs.Trees.{Doing, Seed, partitions_of, stages_in}
 use Rattle.plan_tasks.specs.Tops.{Way, Written, ByHash, InTurn, ToOne, ToOwn, Top, tops}
 use Rattle.plan_tasks.specs.Starts.{in_turn, split_by, starting, tasks_by, consumers_in, seeds_of, tasks_in, start_of, tasks_of as start_tasks}

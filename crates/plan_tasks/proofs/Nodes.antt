@@ -4,8 +4,8 @@ use Rattle.std.proofs.lemmas.List.{append-nil, length-append}
 use Rattle.std.proofs.lemmas.Bool.Decides.{nat_tests, eqb_tells}
 use Rattle.physical_plan.specs.Layout.{Part, bare, numbers, numbers_from, consuming, side_by_side, reader, merger}
 use Rattle.logical_plan.specs.Items.{concat}
-use Rattle.task_trees.specs.Operators.{Op, IsOp}
-use Rattle.task_trees.specs.Trees.{File, Tree, Nothing}
+use Rattle.tree_laws.specs.Operators.{Op, IsOp}
+use Rattle.tree_laws.specs.Trees.{File, Tree, Nothing}
 use Rattle.plan_tasks.specs.Trees.{Seed, inlet, scanning, leaf, passing, holding, pairing, merged}
 use Rattle.plan_tasks.specs.Reading.{Reads, Reserves, Opens, own}
 use Rattle.plan_tasks.proofs.Fresh.{IsFresh, pair_one, pair_count, pair_count-append}

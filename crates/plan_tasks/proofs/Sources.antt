@@ -12,11 +12,11 @@ use Rattle.physical_plan.specs.declared.plan.Plan.TheViews.{roll-Plan}
 use Rattle.physical_plan.specs.declared.plan.Plan.TheFolds.{fold-roll-Plan, para-roll-Plan, map-Plan, ind-Plan}
 use Rattle.physical_plan.specs.Layout.{numbers, numbers_from}
 use Rattle.physical_plan.proofs.Everywhere.{and_parts}
-use Rattle.task_trees.specs.Operators.{Op}
-use Rattle.task_trees.specs.Trees.{File, Nothing}
+use Rattle.tree_laws.specs.Operators.{Op}
+use Rattle.tree_laws.specs.Trees.{File, Nothing}
 use Rattle.logical_plan.specs.Items.{Item}
-use Rattle.whole_contents.specs.Bags.{SameBag, sum_below}
-use Rattle.whole_contents.proofs.Bags.{sums_same, sums_add, sums_zero, sums_at, sums_front}
+use Rattle.content_laws.specs.Bags.{SameBag, sum_below}
+use Rattle.content_laws.proofs.Bags.{sums_same, sums_add, sums_zero, sums_at, sums_front}
 use Rattle.plan_tasks.specs.Trees.{Doing, Seed, leaf, inlet, passing, holding, pairing, paired, scanning, scans, dealt_files, inlets, merged, Growing, grow, grown_after, partitions_of, count_sources, stages_in, sources_in, sum_all}
 use Rattle.plan_tasks.specs.Tops.{Way, Top, Topping, opening, top_node, tops, tops_after, all_tops, way_to, ToOne, ToOwn}
 use Rattle.plan_tasks.specs.Starts.{seeds_of}

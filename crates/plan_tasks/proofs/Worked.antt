@@ -5,9 +5,9 @@ use Rattle.plan_props.specs.declared.properties.Partitioning.TheVariants as part
 use Rattle.physical_plan.specs.declared.plan.Plan.{Plan}
 use Rattle.physical_plan.specs.declared.plan.Plan.TheOpen.{Plan-F}
 use Rattle.physical_plan.specs.declared.plan.Plan.TheViews.{roll-Plan}
-use Rattle.task_trees.specs.Operators.{Op, IsOp}
-use Rattle.task_trees.specs.Trees.{File}
-use Rattle.whole_contents.specs.SenderKinds.{whole_split, hash_split}
+use Rattle.tree_laws.specs.Operators.{Op, IsOp}
+use Rattle.tree_laws.specs.Trees.{File}
+use Rattle.content_laws.specs.SenderKinds.{whole_split, hash_split}
 use Rattle.physical_plan.specs.Layout.{layout}
 use Rattle.plan_tasks.specs.Trees.{Doing, reserving, node, inlet, scan, stages_in}
 use Rattle.plan_tasks.specs.Tops.{tops}

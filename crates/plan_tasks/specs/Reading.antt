@@ -4,10 +4,10 @@ use Rattle.physical_plan.specs.declared.plan.Plan.{Plan}
 use Rattle.physical_plan.specs.declared.plan.Plan.TheOpen.{Plan-F}
 use Rattle.physical_plan.specs.Layout.{Part, numbers_from}
 use Rattle.logical_plan.specs.Items.{concat}
-use Rattle.task_trees.specs.Operators.{IsOp}
-use Rattle.task_trees.specs.Trees.{File, Tree, Nothing, Files, Inlet, Node, HasInlet}
-use Rattle.task_trees.specs.Linked.{IsLinked}
-use Rattle.task_trees.specs.Held.{IsApart}
+use Rattle.tree_laws.specs.Operators.{IsOp}
+use Rattle.tree_laws.specs.Trees.{File, Tree, Nothing, Files, Inlet, Node, HasInlet}
+use Rattle.tree_laws.specs.Linked.{IsLinked}
+use Rattle.tree_laws.specs.Held.{IsApart}
 use Rattle.plan_tasks.specs.Trees.{Doing, reserving}
 
 -- the tree reads these channels, by group then channel, left to right

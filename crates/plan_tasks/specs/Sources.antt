@@ -6,7 +6,7 @@ use Rattle.physical_plan.specs.declared.plan.Plan.TheOpen.{Plan-F}
 use Rattle.physical_plan.specs.declared.plan.Plan.TheFolds.{fold-Plan, para-Plan}
 use Rattle.physical_plan.specs.Layout.{numbers}
 use Rattle.logical_plan.specs.Items.{Item}
-use Rattle.task_trees.specs.Trees.{File}
+use Rattle.tree_laws.specs.Trees.{File}
 use Rattle.plan_tasks.specs.Trees.{Doing, Seed, sources_in}
 use Rattle.plan_tasks.specs.Tops.{Top}
 use Rattle.plan_tasks.specs.Starts.{seeds_of}

@@ -7,8 +7,8 @@ use Rattle.physical_plan.specs.declared.plan.Plan.TheOpen.{Plan-F}
 use Rattle.physical_plan.specs.declared.plan.Plan.TheFolds.{fold-Plan, para-Plan}
 use Rattle.physical_plan.specs.Layout.{numbers}
 use Rattle.logical_plan.specs.Items.{Cells, Item}
-use Rattle.task_trees.specs.Operators.{Told, Op}
-use Rattle.task_trees.specs.Trees.{Desk, File, in_files, Tree, Nothing, Files, Inlet, Node}
+use Rattle.tree_laws.specs.Operators.{Told, Op}
+use Rattle.tree_laws.specs.Trees.{Desk, File, in_files, Tree, Nothing, Files, Inlet, Node}
 
 -- what the nodes of plans do: the operator of a node, which sees its inputs' plans, over so many inputs in the tree,
 -- with the number of its consumer; the channel of a row by a hash of columns, of so many channels; and the items of a

@@ -7,6 +7,3 @@ mod text;
 
 pub use row_lines::RowLines;
 pub use text::{header_text, rows_text};
-
-#[cfg(test)]
-mod tests;

@@ -10,6 +10,3 @@ pub use cause::Cause;
 pub use entry::{Entry, EntryKind};
 pub use journal::Journal;
 pub use text::journal_text;
-
-#[cfg(test)]
-mod tests;

@@ -2,23 +2,23 @@
 use Rattle.std.proofs.Common.{ℕ, ◌≡◌, ◌⊎◌, inl, inr, refl, sym, ap, ◌∙◌, subst, List, [], ◌∷◌, ◌++◌, true, false, Some, option_map}
 use Rattle.run_journal.specs.declared.entry.Entry.{Entry}
 use Rattle.run_journal.specs.declared.entry.EntryKind.TheVariants.{Claimed}
-use Rattle.core_frame.specs.Shape.{Shape, IsShape}
+use Rattle.task_shape.specs.Shape.{Shape, IsShape}
 use Rattle.core_frame.specs.Frame.{Frame}
 use Rattle.core_frame.specs.Step.{Need, frame_step}
-use Rattle.run_histories.specs.Histories.{reply_of}
+use Rattle.history_laws.specs.Histories.{reply_of}
 use Rattle.logical_plan.specs.Items.{Cells}
-use Rattle.task_trees.specs.Tasks.{Task, Wait}
-use Rattle.task_trees.specs.Runs.{State, IsStart, asks_nothing}
+use Rattle.tree_laws.specs.Tasks.{Task, Wait}
+use Rattle.tree_laws.specs.Runs.{State, IsStart, asks_nothing}
 use Rattle.turn_cell.specs.declared.act.Act.{Act}
 use Rattle.turn_cell.specs.declared.act.Act.TheVariants.{Made}
 use Rattle.turn_cell.specs.Acts.{journal_of, Follows}
 use Rattle.turn_cell.specs.Loans.{keeps_task, loan_of, loan_follows}
 use Rattle.core_frame.specs.Carried.{map_need}
-use Rattle.run_histories.specs.Carried.{map_reply}
-use Rattle.task_trees.specs.Settles.{Settles, Leads}
+use Rattle.history_laws.specs.Carried.{map_reply}
+use Rattle.tree_laws.specs.Settles.{Settles, Leads}
 use Rattle.run_laws.specs.Told.{task_after}
 use Rattle.run_laws.specs.Kept.{IsToldRun, TaskIs}
-use Rattle.task_trees.proofs.Settles.{settle_again}
+use Rattle.tree_laws.proofs.Settles.{settle_again}
 use Rattle.turn_cell.proofs.Loans.{loan_after}
 use Rattle.run_laws.proofs.Loans.{kept_lent}
 use Rattle.run_laws.proofs.Kept.{task_stays, told_answered, told_unanswered}

@@ -1,7 +1,7 @@
 -- What a run keeps by each of its acts.
 use Rattle.std.proofs.Common.{ℕ, zero, suc, ◌<◌, ◌≡◌, ◌≢◌, refl, sym, ap, ◌∙◌, subst, List, [], ◌∷◌, ◌++◌, map, length, get_or, get_or-set_same, true, false, Option, Some, None, is_some, arith, option_map}
 use Rattle.run_journal.specs.declared.entry.Entry.{Entry}
-use Rattle.core_frame.specs.Shape.{Shape, IsShape}
+use Rattle.task_shape.specs.Shape.{Shape, IsShape}
 use Rattle.core_frame.specs.declared.place.Place.{Place}
 use Rattle.core_frame.specs.declared.place.Place.TheVariants.{OwnedBy, Done}
 use Rattle.core_frame.specs.Frame.{Frame, place_of, opening}
@@ -9,22 +9,22 @@ use Rattle.core_frame.specs.Good.{IsOwn, AreOwn}
 use Rattle.core_frame.specs.Step.{Need, frame_step, next_frame, frame_replay}
 use Rattle.core_frame.proofs.Replays.{lawful_step}
 use Rattle.core_frame.proofs.Sound.{lawful_opening}
-use Rattle.run_histories.specs.Histories.{Reply, Run, reply_of}
+use Rattle.history_laws.specs.Histories.{Reply, Run, reply_of}
 use Rattle.logical_plan.specs.Items.{Cells}
-use Rattle.task_trees.specs.Tasks.{Task, Wait}
-use Rattle.task_trees.specs.Runs.{State, IsStart, IsReached, no_task, the_task, asks_nothing, tasks_after, state_step, state_replay}
+use Rattle.tree_laws.specs.Tasks.{Task, Wait}
+use Rattle.tree_laws.specs.Runs.{State, IsStart, IsReached, no_task, the_task, asks_nothing, tasks_after, state_step, state_replay}
 use Rattle.turn_cell.specs.declared.act.Act.{Act}
 use Rattle.turn_cell.specs.declared.act.Act.TheVariants.{Made, Returned}
 use Rattle.turn_cell.specs.Acts.{journal_of, Follows}
 use Rattle.turn_cell.specs.Loans.{loan_of}
 use Rattle.core_frame.specs.Carried.{map_need}
-use Rattle.run_histories.specs.Carried.{map_reply}
-use Rattle.task_trees.specs.Settles.{Settles, Leads}
+use Rattle.history_laws.specs.Carried.{map_reply}
+use Rattle.tree_laws.specs.Settles.{Settles, Leads}
 use Rattle.run_laws.specs.Told.{answered, unanswered, task_after}
 use Rattle.run_laws.specs.Others.{entries_of, IsLeft}
 use Rattle.run_laws.specs.Kept.{IsRun, IsToldRun, TaskIs}
 use Rattle.core_frame.proofs.Carried.{opening_map}
-use Rattle.task_trees.proofs.Settles.{leads_one, leads_on, leads_front}
+use Rattle.tree_laws.proofs.Settles.{leads_one, leads_on, leads_front}
 use Rattle.run_laws.proofs.Told.{step_owner, answered_step, unanswered_step}
 use Rattle.run_laws.proofs.Owners.{other_task}
 use Rattle.run_laws.proofs.Loans.{Fine, loans_step, loans_returned, loans_opening}

@@ -9,8 +9,8 @@ use Rattle.run_journal.specs.declared.entry.EntryKind.TheVariants.{Claimed, Scan
 use Rattle.run_journal.specs.SameKind.{same_kind}
 use Rattle.run_journal.proofs.SameKind
 use Rattle.gate_channels.specs.Gate.{Gate, Moved, sent, received, ended, dropped}
-use Rattle.gate_channels.proofs.Tasks.{same_or_not}
-use Rattle.core_frame.specs.Shape.{Shape, IsShape, task_at}
+use Rattle.task_shape.proofs.Numbers.{same_or_not}
+use Rattle.task_shape.specs.Shape.{Shape, IsShape, task_at}
 use Rattle.core_frame.specs.declared.place.Place.{Place}
 use Rattle.core_frame.specs.declared.place.Place.TheVariants.{Woken, OwnedBy, AtGate, AtChannel, Done}
 use Rattle.core_frame.specs.Frame.{Frame, place_of, gate_of, all_done, is_woken, is_owned, owns, opening}

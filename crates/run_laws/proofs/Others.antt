@@ -5,16 +5,16 @@ use Rattle.run_journal.specs.declared.entry.EntryKind.{EntryKind}
 use Rattle.run_journal.specs.declared.cause.Cause.TheVariants.{NoMemory}
 use Rattle.run_journal.specs.declared.entry.EntryKind.TheVariants.{Claimed, Failed}
 use Rattle.run_journal.specs.SameKind.{same_kind}
-use Rattle.gate_channels.specs.Tasks.{one, count}
+use Rattle.task_shape.specs.Numbers.{one, count}
 use Rattle.gate_channels.specs.Gate.{Channel, Gate, Moved, no_channel, no_gate, channel_at, one_of, put, after_send, sent, after_taking, received, ends_last, woken_by_end, ended, dropped, held, awaited}
-use Rattle.gate_channels.proofs.Tasks.{one_same, one_no, same_or_not, count-append}
-use Rattle.core_frame.specs.Shape.{Shape, task_at}
+use Rattle.task_shape.proofs.Numbers.{one_same, one_no, same_or_not, count-append}
+use Rattle.task_shape.specs.Shape.{Shape, task_at}
 use Rattle.core_frame.specs.declared.place.Place.{Place}
 use Rattle.core_frame.specs.declared.place.Place.TheVariants.{Woken, OwnedBy, AtGate, AtChannel, Done}
 use Rattle.core_frame.specs.Frame.{Frame, place_of, gate_of, channel_of, is_owned}
 use Rattle.core_frame.specs.Lawful.{IsLawful, is_at}
 use Rattle.core_frame.specs.Step.{Need, Scan, Recv, Send, Grow, Free, Writes, Finish, Fail, wake_all, wake, put_gate, moved, with_pool, move_to, progress_is, failed, drops, ends_in, ends, finished, made_send, made_send_to, made_recv, made_grow, made, may_fail, is_yielded, may_claim, owner_step, claim_step, is_over, frame_step, next_frame, frame_replay}
-use Rattle.run_histories.specs.Histories.{Reply, Past, Run, past_of, pasts_after, run_after, next_run, run_replay}
+use Rattle.history_laws.specs.Histories.{Reply, Past, Run, past_of, pasts_after, run_after, next_run, run_replay}
 use Rattle.turn_cell.specs.Acts.{entries_by}
 use Rattle.core_frame.proofs.Lists.{read_other, all_after}
 use Rattle.core_frame.proofs.Lookups.{within_if}

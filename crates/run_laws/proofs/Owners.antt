@@ -3,20 +3,20 @@ use Rattle.std.proofs.Common.{ℕ, ◌≡◌, ◌≢◌, refl, sym, ap, ◌∙�
 use Rattle.std.proofs.lemmas.List.{append_cancel_left}
 use Rattle.std.proofs.lemmas.List.Elements.{filter-append}
 use Rattle.run_journal.specs.declared.entry.Entry.{Entry}
-use Rattle.core_frame.specs.Shape.{Shape}
+use Rattle.task_shape.specs.Shape.{Shape}
 use Rattle.core_frame.specs.declared.place.Place.TheVariants.{OwnedBy}
 use Rattle.core_frame.specs.Frame.{Frame, place_of}
 use Rattle.core_frame.specs.Lawful.{IsLawful}
 use Rattle.core_frame.specs.Step.{frame_step}
 use Rattle.core_frame.proofs.Lists.{read_other}
-use Rattle.run_histories.specs.Histories.{Reply, Past, past_of, reply_of, run_after}
+use Rattle.history_laws.specs.Histories.{Reply, Past, past_of, reply_of, run_after}
 use Rattle.logical_plan.specs.Items.{Cells}
-use Rattle.task_trees.specs.Tasks.{Task, Wait}
-use Rattle.task_trees.specs.Runs.{State, no_task, the_task, wait_for, tasks_after, state_after, step_by, state_step, next_state, state_replay}
+use Rattle.tree_laws.specs.Tasks.{Task, Wait}
+use Rattle.tree_laws.specs.Runs.{State, no_task, the_task, wait_for, tasks_after, state_after, step_by, state_step, next_state, state_replay}
 use Rattle.turn_cell.specs.Acts.{entries_by, JournalFollows}
-use Rattle.task_trees.specs.Settles.{Leads}
+use Rattle.tree_laws.specs.Settles.{Leads}
 use Rattle.run_laws.specs.Others.{IsLeft}
-use Rattle.task_trees.proofs.Settles.{leads_one, leads_front}
+use Rattle.tree_laws.proofs.Settles.{leads_one, leads_front}
 use Rattle.run_laws.proofs.Others.{Has, has_lawful, HasApart, step_has, first_other, pasts_other}
 
 module _ (t : ℕ) where

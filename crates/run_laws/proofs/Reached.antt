@@ -1,19 +1,19 @@
 -- A reached state of a run of tasks: its frame is lawful, and its loans are those of its entries.
 use Rattle.std.proofs.Common.{ℕ, ◌≡◌, refl, sym, ap, ◌∙◌, subst, cond, eqb, List, [], ◌∷◌, map, Bool, true, false, Some}
 use Rattle.run_journal.specs.declared.entry.Entry.{Entry}
-use Rattle.core_frame.specs.Shape.{Shape, IsShape}
-use Rattle.run_histories.specs.Histories.{begun, frame_in}
-use Rattle.run_histories.proofs.Laws.{same_frames}
-use Rattle.task_trees.specs.Runs.{State, IsStart, IsReached}
-use Rattle.task_trees.proofs.Runs
+use Rattle.task_shape.specs.Shape.{Shape, IsShape}
+use Rattle.history_laws.specs.Histories.{begun, frame_in}
+use Rattle.history_laws.proofs.Laws.{same_frames}
+use Rattle.tree_laws.specs.Runs.{State, IsStart, IsReached}
+use Rattle.tree_laws.proofs.Runs
 use Rattle.turn_cell.specs.declared.act.Act.{Act}
 use Rattle.turn_cell.specs.declared.act.Act.TheVariants.{Made, Returned}
 use Rattle.turn_cell.specs.Acts.{acts_by, journal_of, Follows, JournalFollows}
 use Rattle.turn_cell.specs.Loans.{last_loan, loan_of}
 use Rattle.turn_cell.proofs.Journals.{journal_follows}
-use Rattle.task_trees.specs.Settles.{Leads}
+use Rattle.tree_laws.specs.Settles.{Leads}
 use Rattle.run_laws.specs.Others.{IsLeft}
-use Rattle.task_trees.proofs.Settles.{leads_front}
+use Rattle.tree_laws.proofs.Settles.{leads_front}
 use Rattle.run_laws.proofs.Owners.{follows_leave}
 use Rattle.run_laws.proofs.Loans.{Fine, loans_replay}
 

@@ -8,22 +8,22 @@ use Rattle.run_journal.specs.declared.entry.EntryKind.TheVariants.{Claimed, Yiel
 use Rattle.run_journal.specs.SameKind.{same_kind}
 use Rattle.gate_channels.specs.Gate.{is_empty, is_open}
 use Rattle.fair_pool.specs.Share.{can_spill, held_by, grants}
-use Rattle.core_frame.specs.Shape.{Shape, task_at}
+use Rattle.task_shape.specs.Shape.{Shape, task_at}
 use Rattle.core_frame.specs.Frame.{Frame, place_of, gate_of, channel_of, is_owned}
 use Rattle.core_frame.specs.Step.{Need, Scan, Recv, Send, Grow, Free, Writes, Finish, Fail, made_send, made_send_to, made_recv, made_grow, made, owner_step, claim_step, is_over, frame_step}
-use Rattle.run_histories.specs.Histories.{reply_of, pasts_after, run_after}
+use Rattle.history_laws.specs.Histories.{reply_of, pasts_after, run_after}
 use Rattle.logical_plan.specs.Items.{Cells}
-use Rattle.task_trees.specs.Tasks.{Task, Wait}
-use Rattle.task_trees.specs.Runs.{State, no_task, the_task, asks_nothing, wait_by, tasks_after, state_after, step_by}
+use Rattle.tree_laws.specs.Tasks.{Task, Wait}
+use Rattle.tree_laws.specs.Runs.{State, no_task, the_task, asks_nothing, wait_by, tasks_after, state_after, step_by}
 use Rattle.core_frame.specs.Carried.{map_frame, map_need}
-use Rattle.run_histories.specs.Carried.{map_reply}
-use Rattle.task_trees.specs.Settles.{Settles, Leads}
+use Rattle.history_laws.specs.Carried.{map_reply}
+use Rattle.tree_laws.specs.Settles.{Settles, Leads}
 use Rattle.run_laws.specs.Told.{answered, unanswered}
 use Rattle.core_frame.specs.declared.place.Place.TheVariants.{OwnedBy}
 use Rattle.core_frame.proofs.Lookups.{within_if}
 use Rattle.run_laws.proofs.Loans.{owned_is}
 use Rattle.core_frame.proofs.Carried.{step_map}
-use Rattle.run_histories.proofs.Carried.{reply_map}
+use Rattle.history_laws.proofs.Carried.{reply_map}
 
 -- ------------------------------------------------------------ an entry that asks nothing stands whatever the need is
 -- neither Claimed nor Yielded is made by a need

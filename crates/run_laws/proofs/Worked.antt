@@ -6,22 +6,22 @@ use Rattle.run_journal.specs.declared.entry.Entry.{Entry}
 use Rattle.run_journal.specs.declared.entry.EntryKind.{EntryKind}
 use Rattle.run_journal.specs.declared.entry.EntryKind.TheVariants.{Claimed, Scanned, Received, Empty, Sent, Wrote, Failed}
 use Rattle.gate_channels.specs.Gate.{sent, received, awaited}
-use Rattle.core_frame.specs.Shape.{Shape, IsShape, task_at, has, receives_at}
+use Rattle.task_shape.specs.Shape.{task_at, has, receives_at}
 use Rattle.core_frame.specs.declared.place.Place.{Place}
 use Rattle.core_frame.specs.declared.place.Place.TheVariants.{Woken, OwnedBy, Done}
 use Rattle.core_frame.specs.Frame.{Frame, opening}
 use Rattle.core_frame.specs.Step.{Need, Scan, Recv, Send, frame_step, frame_replay, wake, put_gate, move_to, progress_is, failed}
-use Rattle.core_frame.proofs.ShapeTest.{is_shape}
-use Rattle.run_histories.specs.Histories.{Go, begun}
+use Rattle.task_shape.proofs.Worked.{two_scans, two_scans_shape}
+use Rattle.history_laws.specs.Histories.{Go, begun}
 use Rattle.logical_plan.specs.Items.{Cells, Item}
-use Rattle.task_trees.specs.Trees.{Files, Inlet}
-use Rattle.task_trees.specs.Tasks.{Split, Task, Wait, settle, IsTask}
-use Rattle.task_trees.specs.Runs.{State, the_task, AllTo, Fits, IsStart, state_replay}
+use Rattle.tree_laws.specs.Trees.{Files, Inlet}
+use Rattle.tree_laws.specs.Tasks.{Split, Task, Wait, settle, IsTask}
+use Rattle.tree_laws.specs.Runs.{State, the_task, AllTo, Fits, IsStart, state_replay}
 use Rattle.turn_cell.specs.declared.act.Act.{Act}
 use Rattle.turn_cell.specs.declared.act.Act.TheVariants.{Made, Returned}
 use Rattle.turn_cell.specs.Loans.{loan_of}
 use Rattle.turn_cell.specs.Acts.{journal_of, Follows}
-use Rattle.task_trees.specs.Settles.{Leads}
+use Rattle.tree_laws.specs.Settles.{Leads}
 use Rattle.run_laws.specs.Others.{IsLeft}
 use Rattle.run_laws.specs.Told.{answered}
 use Rattle.run_laws.specs.Loans.{gave_up}
@@ -36,19 +36,6 @@ places_of None = []
 places_of (Some f) = f.places
 
 -- ------------------------------------------------------------ a Coalesce over the scans of two files
-two_scans : Shape
-two_scans = record {
-  tasks = record { stage = 0; sends = None; targets = []; receives = (1, 0) ∷ []; consumers = [] }
-      ∷ record { stage = 1; sends = Some 1; targets = 0 ∷ []; receives = []; consumers = [] }
-      ∷ record { stage = 1; sends = Some 1; targets = 0 ∷ []; receives = []; consumers = [] } ∷ [];
-  widths = 0 ∷ 1 ∷ [];
-  spillable = [];
-}
-
-two_scans_shape : IsShape two_scans
-unfolding two_scans
-two_scans_shape = is_shape two_scans refl
-
 -- ------------------------------------------------------------ a failed run: worker 1 gives up, its task keeps its place; worker 2 keeps its loan until it returns it
 failing : List (Entry × Need ℕ)
 failing = (by 1 1 Claimed, Scan) ∷ (by 2 0 Claimed, Scan) ∷ (by 1 1 (Failed NoMemory), Scan) ∷ []

@@ -1,18 +1,18 @@
 -- Words: what a run keeps by each act, and what it keeps where it is told.
 use Rattle.std.specs.Prelude.{ℕ, ◌≡◌, Some, List}
 use Rattle.run_journal.specs.declared.entry.Entry.{Entry}
-use Rattle.core_frame.specs.Shape.{Shape}
+use Rattle.task_shape.specs.Shape.{Shape}
 use Rattle.core_frame.specs.Frame.{Frame, opening}
 use Rattle.core_frame.specs.Good.{AreOwn}
 use Rattle.core_frame.specs.Lawful.{IsLawful}
 use Rattle.core_frame.specs.Step.{Need, frame_replay}
 use Rattle.logical_plan.specs.Items.{Cells}
-use Rattle.task_trees.specs.Tasks.{Task}
-use Rattle.task_trees.specs.Runs.{State, the_task}
+use Rattle.tree_laws.specs.Tasks.{Task}
+use Rattle.tree_laws.specs.Runs.{State, the_task}
 use Rattle.turn_cell.specs.declared.act.Act.{Act}
 use Rattle.turn_cell.specs.Acts.{journal_of}
 use Rattle.core_frame.specs.Carried.{map_frame}
-use Rattle.task_trees.specs.Settles.{Leads}
+use Rattle.tree_laws.specs.Settles.{Leads}
 use Rattle.run_laws.specs.Others.{entries_of}
 use Rattle.run_laws.specs.Loans.{AreLoans}
 

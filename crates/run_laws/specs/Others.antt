@@ -4,8 +4,8 @@ use Rattle.run_journal.specs.declared.entry.Entry.{Entry}
 use Rattle.core_frame.specs.declared.place.Place.TheVariants.{OwnedBy}
 use Rattle.core_frame.specs.Frame.{Frame, place_of}
 use Rattle.core_frame.specs.Step.{Need}
-use Rattle.run_histories.specs.Histories.{Run, past_of}
-use Rattle.task_trees.specs.Runs.{State, the_task}
+use Rattle.history_laws.specs.Histories.{Run, past_of}
+use Rattle.tree_laws.specs.Runs.{State, the_task}
 
 abbrev pub entries_of : {B : Type 0} → List (Entry × Need B) → List Entry
 entries_of {B} steps = map (λ (x : Entry × Need B). x.0) steps

@@ -2,12 +2,12 @@
 use Rattle.std.specs.Prelude.{Option, Some, None, List, option_map}
 use Rattle.run_journal.specs.declared.entry.Entry.{Entry}
 use Rattle.core_frame.specs.Frame.{Frame}
-use Rattle.run_histories.specs.Histories.{Reply, pasts_after}
+use Rattle.history_laws.specs.Histories.{Reply, pasts_after}
 use Rattle.logical_plan.specs.Items.{Cells}
-use Rattle.task_trees.specs.Tasks.{Task, Wait}
-use Rattle.task_trees.specs.Runs.{State, tasks_after}
+use Rattle.tree_laws.specs.Tasks.{Task, Wait}
+use Rattle.tree_laws.specs.Runs.{State, tasks_after}
 use Rattle.core_frame.specs.Carried.{map_frame}
-use Rattle.run_histories.specs.Carried.{map_reply}
+use Rattle.history_laws.specs.Carried.{map_reply}
 
 -- the frame is this one with rows for batches, and the task of the entry, which waited, was answered so
 abbrev pub answered : {B : Type 0} → (B → List Cells) → State → Entry → Wait → Frame B → Option (Reply B) → State

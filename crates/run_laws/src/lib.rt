@@ -6,6 +6,3 @@ mod law;
 pub use law::{
     job_law, kept_law, kept_told_law, loan_law, others_law, owner_law, start_law, told_law,
 };
-
-#[cfg(test)]
-mod tests;

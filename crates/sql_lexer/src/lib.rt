@@ -12,6 +12,3 @@ pub use lexer::tokens;
 pub use refused::LexRefused;
 pub use texts::token_text;
 pub use token::{Token, TokenKind};
-
-#[cfg(test)]
-mod tests;

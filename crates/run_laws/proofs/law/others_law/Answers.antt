@@ -1,5 +1,5 @@
 use Rattle.std.proofs.Common.{get_or, false, refl, subst, Some, IfSome}
-use Rattle.run_histories.specs.Histories.{past_of}
+use Rattle.history_laws.specs.Histories.{past_of}
 use Rattle.run_laws.proofs.Others.{Has, RunHas, has_lawful, replay_has, run_replay_has}
 use Rattle.run_laws.proofs.law.others_law.Goals as goal
 

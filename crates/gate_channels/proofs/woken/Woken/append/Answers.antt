@@ -1,6 +1,6 @@
 use Rattle.std.proofs.Common.{◌++◌, sym, ap, ◌∙◌, subst}
 use Rattle.std.proofs.lemmas.List.{append-nil, append_assoc}
-use Rattle.gate_channels.specs.Tasks.{AreApart}
+use Rattle.task_shape.specs.Numbers.{AreApart}
 use Rattle.gate_channels.proofs.Distinct.{push_apart}
 use Rattle.gate_channels.proofs.woken.Woken.append.Goals as goal
 

@@ -1,5 +1,5 @@
 use Rattle.std.proofs.Common.{◌≡◌, ◌++◌, length}
-use Rattle.gate_channels.specs.Tasks.{AreApart}
+use Rattle.task_shape.specs.Numbers.{AreApart}
 use Rattle.gate_channels.proofs.woken.Woken.append.Given as goal
 
 -- what stands here and then what is left there

@@ -1,5 +1,5 @@
 use Rattle.std.proofs.Common.{◌<◌, ◌≡◌, arith, IfSome, subst}
-use Rattle.gate_channels.specs.Tasks.{count}
+use Rattle.task_shape.specs.Numbers.{count}
 use Rattle.gate_channels.specs.Queue.{Ready}
 use Rattle.gate_channels.proofs.Distinct.{popped_rest, popped_front}
 use Rattle.gate_channels.proofs.woken.Woken.pop.Goals as goal

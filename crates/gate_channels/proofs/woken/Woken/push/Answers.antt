@@ -1,5 +1,5 @@
 use Rattle.std.proofs.Common.{◌<◌, ◌≡◌, length, arith, sym, subst}
-use Rattle.gate_channels.specs.Tasks.{count}
+use Rattle.task_shape.specs.Numbers.{count}
 use Rattle.gate_channels.specs.Queue.{Ready}
 use Rattle.gate_channels.proofs.Distinct.{fresh_room, push_distinct}
 use Rattle.gate_channels.proofs.woken.Woken.push.Goals as goal

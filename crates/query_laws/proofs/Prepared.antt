@@ -1,0 +1,63 @@
+-- What a script is prepared to: its bound query, with its plan, over as many lists of files as it has tables.
+use Rattle.std.proofs.Common.{ℕ, suc, ◌+◌, ◌≡◌, refl, sym, ap, ◌∙◌, List, [], ◌∷◌, ◌++◌, length, map, Result, Ok, Err, subst, arith}
+use Rattle.std.proofs.lemmas.List.{length-append}
+use Rattle.dfx_outside.specs.Contents.{Contents}
+use Rattle.sql_grammar.specs.declared.ast.Script.{Script}
+use Rattle.sql_grammar.specs.declared.ast.TableAst.{TableAst}
+use Rattle.expr_binder.specs.Answer.{Answer}
+use Rattle.sql_binder.specs.Bound.{bound}
+use Rattle.logical_plan.specs.declared.query.Query.{Query}
+use Rattle.dfx_prepare.specs.Preparing.{Path, schema_of, script_of, of_bound, query_of, plan_of, table_files, followed, files_behind, files_of, with_files, prepared_over, prepared_script, prepared}
+use Rattle.dfx_prepare.specs.declared.failure.Failure.{Failure}
+use Rattle.dfx_prepare.specs.declared.prepared.Prepared.{Prepared}
+use Rattle.kind_laws.specs.Tables.{table_kinds, file_counts}
+use Rattle.query_laws.specs.Runs.{csv_tables}
+
+-- the query is the one that the script means, the plan is its plan, and each table has a list of files
+pub record IsOf (script : Script) (n : ℕ) (p : Prepared) : Type 0 where
+  pub query : bound script (map schema_of script.tables) ≡ Ok p.query
+  pub plan : p.plan ≡ plan_of p.query (map length p.paths) n
+  pub each : length p.paths ≡ length script.tables
+
+counted : (all : Contents) (found : List (List Path)) (ts : List TableAst) (paths : List (List Path)) → files_behind all found ts ≡ Ok paths → length paths ≡ length found + length ts
+counted all found [] paths e = (let a : found ≡ paths = cc in sym (ap length a) ∙ (let z : length found ≡ length found + 0 = omega arith in z))
+counted all found (t ∷ ts) paths e = go (table_files all t) (λ files h. counted all (found ++ files ∷ []) ts paths h) e
+  where
+    go : (r : Result (List Path) Failure) → ((files : List Path) → files_behind all (found ++ files ∷ []) ts ≡ Ok paths → length paths ≡ length (found ++ files ∷ []) + length ts)
+        → followed r (λ files. files_behind all (found ++ files ∷ []) ts) ≡ Ok paths → length paths ≡ length found + suc (length ts)
+    go (Ok files) k h = (let a = k files h in let b = length-append found (files ∷ []) in omega arith)
+    go (Err refusal) k h = cc
+
+bound_is : (a : Answer Query) (q : Query) → of_bound a ≡ Ok q → a ≡ Ok q
+bound_is (Ok x) q e = (let a : x ≡ q = cc in ap Ok a)
+bound_is (Err refusal) q e = cc
+
+query_is : (script : Script) (q : Query) → query_of script ≡ Ok q → bound script (map schema_of script.tables) ≡ Ok q
+unfolding query_of
+query_is script q e = bound_is (bound script (map schema_of script.tables)) q e
+
+of_query : (script : Script) (n : ℕ) (paths : List (List Path)) (p : Prepared) → length paths ≡ length script.tables → (r : Result Query Failure) → query_of script ≡ r
+    → followed r (λ q. Ok (with_files script.tables n paths q)) ≡ Ok p → IsOf script n p
+of_query script n paths p l (Ok q) e h = (let a : with_files script.tables n paths q ≡ p = cc in
+    subst (IsOf script n) a (record { query = query_is script q e; plan = refl; each = l }))
+of_query script n paths p l (Err refusal) e h = cc
+
+of_files : (all : Contents) (n : ℕ) (script : Script) (p : Prepared) (r : Result (List (List Path)) Failure) → files_of all script.tables ≡ r → followed r (prepared_over script n) ≡ Ok p → IsOf script n p
+of_files all n script p (Ok paths) e h = of_query script n paths p (counted all [] script.tables paths e ∙ (let z : 0 + length script.tables ≡ length script.tables = omega arith in z)) (query_of script) refl h
+of_files all n script p (Err refusal) e h = cc
+
+pub is_of : (text : List ℕ) (all : Contents) (n : ℕ) (script : Script) (p : Prepared) → script_of text ≡ Ok script → prepared text all n ≡ Ok p → IsOf script n p
+is_of text all n script p s e = of_files all n script p (files_of all script.tables) refl (sym (ap (λ r. followed r (prepared_script all n)) s) ∙ e)
+
+-- ------------------------------------------------------------ its tables
+
+pub kinds_are : (ts : List TableAst) (paths : List (List Path)) → length paths ≡ length ts → table_kinds (csv_tables ts paths) ≡ map (λ (t : TableAst). (schema_of t).kinds) ts
+kinds_are [] paths e = refl
+kinds_are (t ∷ ts) [] e = cc
+kinds_are (t ∷ ts) (files ∷ paths) e = ap (λ ks. (schema_of t).kinds ∷ ks) (kinds_are ts paths (omega arith))
+
+pub counts_are : (ts : List TableAst) (paths : List (List Path)) → length paths ≡ length ts → file_counts (csv_tables ts paths) ≡ map length paths
+counts_are [] [] e = refl
+counts_are [] (files ∷ paths) e = cc
+counts_are (t ∷ ts) [] e = cc
+counts_are (t ∷ ts) (files ∷ paths) e = ap (λ ns. length files ∷ ns) (counts_are ts paths (omega arith))
