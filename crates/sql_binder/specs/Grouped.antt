@@ -123,6 +123,12 @@ key_kinds = map (λ (k : Kinded). k.1)
 abbrev pub aggregated : Logical → List Kinded → List Expr → List AggCall → Logical
 aggregated body ks args found = plan.Aggregate (plan.Project body (exprs ks ++ args)) (first_columns (length ks)) found
 
-abbrev pub having : Columns → Over → Option ExprAst → Logical → Answer Logical
-having columns over None body = Ok body
-having columns over (Some e) body = meaning columns e over >>= tested (place_of e) >>= λ test. Ok (plan.Filter body test)
+-- HAVING's test, bound in text order with the arguments of its calls where they stand; it must be a truth
+abbrev pub having : Columns → Over → Option ExprAst → Answer (Option Expr)
+having columns over None = Ok None
+having columns over (Some e) = meaning columns e over >>= tested (place_of e) >>= λ test. Ok (Some test)
+
+-- the groups on which HAVING's test is true
+abbrev pub kept : Option Expr → Logical → Logical
+kept None body = body
+kept (Some test) body = plan.Filter body test

@@ -20,8 +20,10 @@ use Rattle.sql_binder.specs.declared.selected.Selected.{Selected}
 use Rattle.sql_binder.specs.Each.{each}
 use Rattle.sql_binder.specs.Sources.{Reading, Joining, table, derived, from, filtered}
 use Rattle.sql_binder.specs.declared.items.Output.{Output}
+use Rattle.sql_binder.specs.declared.clauses.Clauses.{Clauses}
+use Rattle.scalar_exprs.specs.declared.expr.Expr.{Expr}
 use Rattle.sql_binder.specs.Items.{outputs, names, exprs, kinds}
-use Rattle.sql_binder.specs.Grouped.{keys, calls, is_grouped, argument, arguments, numbered, key_kinds, aggregated, having}
+use Rattle.sql_binder.specs.Grouped.{keys, calls, is_grouped, argument, arguments, numbered, key_kinds, aggregated, having, kept}
 use Rattle.sql_binder.specs.Unions.{Placed, united}
 
 -- a select as it is written, behind FROM and WHERE
@@ -45,20 +47,22 @@ plain distinct items s = outputs s.columns None items >>= λ os. Ok (projected d
 abbrev pub over_keys : Parts → Columns → List ExprAst → List Kinded → Over
 over_keys p columns found ks = Some (record { keys = p.groups; kinds = key_kinds ks; calls = found })
 
--- the groups behind HAVING
-abbrev pub groups_body : Parts → List ExprAst → Columns → List Kinded → Logical → Answer Logical
-groups_body p found columns ks body = arguments columns (map argument found) >>= λ args.
-    having columns (over_keys p columns found ks) p.having (aggregated body ks args (numbered (length ks) (map argument found)))
-
--- the columns of the items over groups, and the groups
-abbrev pub over_groups : Parts → List ExprAst → Columns → Logical → Answer (List Output × Logical)
-over_groups p found columns body = keys columns p.groups >>= λ ks.
+-- The tests of a select over groups in text order: GROUP BY, the items, HAVING. Each aggregate call binds its argument where it stands.
+abbrev pub clauses : Parts → List ExprAst → Columns → Answer Clauses
+clauses p found columns = keys columns p.groups >>= λ ks.
     outputs columns (over_keys p columns found ks) p.items >>= λ os.
-    groups_body p found columns ks body >>= λ groups.
-    Ok (os, groups)
+    having columns (over_keys p columns found ks) p.having >>= λ test.
+    Ok (record { keys = ks; outputs = os; test = test })
 
+-- the groups of a body by these keys, of which those stay on which HAVING's test is true
+abbrev pub groups_body : List ExprAst → List Kinded → Option Expr → List Expr → Logical → Logical
+groups_body found ks test args body = kept test (aggregated body ks args (numbered (length ks) (map argument found)))
+
+-- behind the clauses, each argument is one that they bound where its call stands
 abbrev pub grouped : Parts → List ExprAst → Source → Answer Selected
-grouped p found s = over_groups p found s.columns s.body >>= λ g. Ok (projected p.distinct s.columns g.0 g.1)
+grouped p found s = clauses p found s.columns >>= λ c.
+    arguments s.columns (map argument found) >>= λ args.
+    Ok (projected p.distinct s.columns c.outputs (groups_body found c.keys c.test args s.body))
 
 abbrev pub with_calls : Parts → Source → List ExprAst → Answer Selected
 with_calls p s found = if is_grouped p.groups p.having found then grouped p found s else plain p.distinct p.items s

@@ -157,24 +157,33 @@ pub fn aggregated(
     })
 }
 
-/// The groups on which HAVING is true.
+/// The test of HAVING, which must be a truth.
 pub fn having(
     alloc: Global,
     columns: &[Column],
     over: &Grouping<'_>,
     test: &Option<ExprAst>,
-    body: Logical,
-) -> Result<Logical, Unbound>
-    ensures { Gives result (spec.having columns.now (Some over.now) test.now body) }
+) -> Result<Option<Expr>, Unbound>
+    ensures { Gives result (spec.having columns.now (Some over.now) test.now) }
+{
+    match test {
+        None => Ok(None),
+        Some(test) => {
+            let bound = bind_expr(alloc, columns, Some(over), test)?;
+            Ok(Some(tested(test.place, bound)?))
+        }
+    }
+}
+
+/// The groups on which the test of HAVING is true.
+pub fn kept(alloc: Global, test: Option<Expr>, body: Logical) -> Result<Logical, NoMemory>
+    ensures { IfOk result (λ body'. body' ≡ spec.kept test body) }
 {
     match test {
         None => Ok(body),
-        Some(test) => {
-            let bound = bind_expr(alloc, columns, Some(over), test)?;
-            Ok(Logical::Filter {
-                input: Boxed::new(alloc, body)?,
-                test: tested(test.place, bound)?,
-            })
-        }
+        Some(test) => Ok(Logical::Filter {
+            input: Boxed::new(alloc, body)?,
+            test,
+        }),
     }
 }

@@ -3,6 +3,7 @@
 
 mod aggregates;
 mod binding;
+mod clauses;
 mod groups;
 mod items;
 mod orders;

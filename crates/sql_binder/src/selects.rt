@@ -1,21 +1,20 @@
 //! Selects, and the tree of them.
 
-ghost use Rattle.std.specs.Prelude.{◌≡◌, IfOk, Some, map};
+ghost use Rattle.std.specs.Prelude.{◌≡◌, IfOk, map};
 ghost use Rattle.expr_binder.specs.Answer.{Gives};
 ghost use Rattle.sql_binder.specs.Each.{each};
-ghost use Rattle.sql_binder.specs.Items.{outputs as spec_outputs};
 ghost use Rattle.sql_binder.specs.Selects as spec;
 ghost use Rattle.sql_binder.specs.Sources as sources;
 
-use crate::aggregates::{aggregated, arguments, calls, having, is_grouped, numbered};
-use crate::groups::{key_kinds, keys};
+use crate::aggregates::{aggregated, arguments, calls, is_grouped, kept, numbered};
+use crate::clauses::{Clauses, clauses};
 use crate::items::{Output, outputs, taken_apart};
 use crate::schema::Schema;
 use crate::selected::Selected;
 use crate::sources::{Source, derived, filtered, has_alias, join_sources, table};
 use crate::unions::united;
 use dfx_value::{Kind, NoMemory, Seq, Text};
-use expr_binder::{Column, Grouping, Refusal, Unbound, Why};
+use expr_binder::{Column, Refusal, Unbound, Why};
 use logical_plan::Logical;
 use scalar_exprs::Expr;
 use sql_grammar::ast::{ExprAst, FromAst, ItemAst, JoinAst, SelectAst};
@@ -65,64 +64,23 @@ fn plain(
     Ok(projected(alloc, distinct, source.columns, found, source.body)?)
 }
 
-/// The columns of the items over groups.
-fn group_outputs(
-    alloc: Global,
-    select: &SelectAst,
-    calls: &[ExprAst],
-    columns: &[Column],
-    kinds: &[Kind],
-) -> Result<Seq<Output>, Unbound>
-    ensures { Gives result (spec_outputs columns.now (Some (record { keys = (spec.parts select.now).groups; kinds = kinds.now; calls = calls.now })) (spec.parts select.now).items) }
-{
-    let over = Grouping {
-        keys: select.groups.as_slice(),
-        kinds,
-        calls,
-    };
-    outputs(alloc, columns, Some(&over), select.items.as_slice())
-}
-
-/// The groups, behind HAVING.
+/// The groups over a body, on which HAVING is true.
 fn groups_body(
     alloc: Global,
-    select: &SelectAst,
     calls: &[ExprAst],
-    columns: &[Column],
     keys: Seq<(Expr, Kind)>,
+    test: Option<Expr>,
+    arguments: Seq<Expr>,
     body: Logical,
-) -> Result<Logical, Unbound>
-    ensures { Gives result (spec.groups_body (spec.parts select.now) calls.now columns.now keys body) }
+) -> Result<Logical, NoMemory>
+    ensures { IfOk result (λ b. b ≡ spec.groups_body calls.now keys test arguments body) }
 {
-    let kinds = key_kinds(alloc, keys.as_slice())?;
-    let arguments = arguments(alloc, columns, calls)?;
     let numbered = numbered(alloc, keys.len(), calls)?;
-    let grouped = aggregated(alloc, body, keys, arguments, numbered)?;
-    let over = Grouping {
-        keys: select.groups.as_slice(),
-        kinds: kinds.as_slice(),
-        calls,
-    };
-    having(alloc, columns, &over, &select.having, grouped)
+    let groups = aggregated(alloc, body, keys, arguments, numbered)?;
+    kept(alloc, test, groups)
 }
 
-/// The columns of the items over groups, and the groups.
-fn over_groups(
-    alloc: Global,
-    select: &SelectAst,
-    calls: &[ExprAst],
-    columns: &[Column],
-    body: Logical,
-) -> Result<(Seq<Output>, Logical), Unbound>
-    ensures { Gives result (spec.over_groups (spec.parts select.now) calls.now columns.now body) }
-{
-    let keys = keys(alloc, columns, select.groups.as_slice())?;
-    let kinds = key_kinds(alloc, keys.as_slice())?;
-    let found = group_outputs(alloc, select, calls, columns, kinds.as_slice())?;
-    let body = groups_body(alloc, select, calls, columns, keys, body)?;
-    Ok((found, body))
-}
-
+/// The items over groups.
 fn grouped(
     alloc: Global,
     select: &SelectAst,
@@ -132,8 +90,15 @@ fn grouped(
     ensures { Gives result (spec.grouped (spec.parts select.now) calls.now source) }
 {
     let Source { columns, body } = source;
-    let (found, body) = over_groups(alloc, select, calls, columns.as_slice(), body)?;
-    Ok(projected(alloc, select.distinct, columns, found, body)?)
+    let bound = clauses(alloc, select, calls, columns.as_slice())?;
+    let arguments = arguments(alloc, columns.as_slice(), calls)?;
+    let Clauses {
+        keys,
+        outputs,
+        test,
+    } = bound;
+    let body = groups_body(alloc, calls, keys, test, arguments, body)?;
+    Ok(projected(alloc, select.distinct, columns, outputs, body)?)
 }
 
 /// A select behind FROM and WHERE.
