@@ -1,11 +1,13 @@
 -- The first of tests that others stand before or behind.
 use Rattle.std.proofs.Common.{◌≡◌, refl, ap, sym, ◌∙◌, ℕ, suc, ◌+◌, Bool, true, false, cond, Option, Some, None, List, [], ◌∷◌, ◌++◌, length, arith, drop, get_or, ◌<◌, ◌≤◌}
 use Rattle.std.specs.Prelude.{option_map}
-use Rattle.std.proofs.lemmas.List.{drop_all, drop_more}
+use Rattle.std.proofs.lemmas.List.{drop_all, drop_more, length-map}
 use Rattle.sql_grammar.specs.declared.ast.ExprAst.{ExprAst}
 use Rattle.sql_grammar.specs.declared.ast.ItemAst.{ItemAst}
+use Rattle.sql_grammar.specs.declared.ast.ItemAst.TheVariants as item
 use Rattle.expr_binder.specs.Scopes.{Columns}
-use Rattle.sql_binder.specs.Orders.{first_from, tests_of, item_tests, place_in, width_of, place_from}
+use Rattle.sql_binder.specs.Orders.{first_from, tests_of, item_tests, place_in, place_from}
+use Rattle.sql_binder.specs.Items.{given, is_column, width_of}
 
 abbrev Tests : Type 0
 Tests = List (ExprAst → Bool)
@@ -43,9 +45,17 @@ place-end : (cs : Columns) (k : ℕ) (e : ExprAst) → place_from cs k [] e ≡ 
 unfolding place_from
 place-end cs k e = refl
 
+-- an item has a test for each column that it gives
+pub tests_length : (cs : Columns) (i : ItemAst) → length (tests_of cs i) ≡ width_of cs i
+unfolding width_of
+tests_length cs (item.All place) = length-map (given None cs) (is_column cs)
+tests_length cs (item.AllOf alias place) = length-map (given (Some alias) cs) (is_column cs)
+tests_length cs (item.One e name) = refl
+
 place-passed : (cs : Columns) (k : ℕ) (i : ItemAst) (is : List ItemAst) (e : ExprAst) → place_in cs i e ≡ None → place_from cs k (i ∷ is) e ≡ place_from cs (k + width_of cs i) is e
-unfolding place_from place_in width_of
+unfolding place_from place_in
 place-passed cs k i is e h = behind_front e k (tests_of cs i) (item_tests cs is) h
+    ∙ ap (λ (n : ℕ). first_from (k + n) (item_tests cs is) e) (tests_length cs i)
 
 place-found : (cs : Columns) (k p : ℕ) (i : ItemAst) (is : List ItemAst) (e : ExprAst) → place_in cs i e ≡ Some p → place_from cs k (i ∷ is) e ≡ Some (k + p)
 unfolding place_from place_in

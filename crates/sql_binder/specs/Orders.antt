@@ -48,12 +48,9 @@ abbrev pub first_from : ℕ → List (ExprAst → Bool) → ExprAst → Option �
 first_from k [] e = None
 first_from k (is ∷ more) e = if is e then Some k else first_from (suc k) more e
 
--- the first of an item's columns that an expression is, and how many there are
+-- the first of an item's columns that an expression is
 unfoldable pub place_in : Columns → ItemAst → ExprAst → Option ℕ
 place_in columns i e = first_from 0 (tests_of columns i) e
-
-unfoldable pub width_of : Columns → ItemAst → ℕ
-width_of columns i = length (tests_of columns i)
 
 -- the first of the columns of all items, counted from k on
 unfoldable pub place_from : Columns → ℕ → List ItemAst → ExprAst → Option ℕ

@@ -14,7 +14,7 @@ use Rattle.expr_binder.specs.Scopes.{Columns}
 use Rattle.expr_binder.specs.Answer.{Answer, ◌>>=◌}
 use Rattle.expr_binder.specs.Groups.{Over}
 use Rattle.expr_binder.specs.Typed.{Kinded}
-use Rattle.sql_binder.specs.declared.schema.Schema.{Schema}
+use Rattle.sql_binder.specs.declared.table.Table.{Table}
 use Rattle.sql_binder.specs.declared.sources.Source.{Source}
 use Rattle.sql_binder.specs.declared.selected.Selected.{Selected}
 use Rattle.sql_binder.specs.Each.{each}
@@ -84,9 +84,9 @@ placed s = s.select >>= λ x. Ok (s.place, x)
 abbrev pub union_of : List Selecting → Answer Selected
 union_of ss = each placed ss >>= united
 
-abbrev pub reading : List Schema → FromAst-F Reading Joining Selecting → Reading
-reading schemas (FromAst-F.Named name alias place) = record { alias = alias; place = place; source = table schemas place name alias }
-reading schemas (FromAst-F.Derived parts alias place) = record { alias = alias; place = place; source = union_of parts >>= λ s. Ok (derived alias s) }
+abbrev pub reading : List Table → FromAst-F Reading Joining Selecting → Reading
+reading tables (FromAst-F.Named name alias place) = record { alias = alias; place = place; source = table tables place name alias }
+reading tables (FromAst-F.Derived parts alias place) = record { alias = alias; place = place; source = union_of parts >>= λ s. Ok (derived alias s) }
 
 abbrev pub joining : JoinAst-F Reading Joining Selecting → Joining
 joining j = record { kind = j.kind; right = j.right; on = j.on }
@@ -100,12 +100,12 @@ parts s = parts_of (out-SelectAst s)
 abbrev pub selecting : SelectAst-F Reading Joining Selecting → Selecting
 selecting s = record { place = s.place; select = from s.first s.joins >>= filtered s.test >>= selected (parts_of s) }
 
--- a select over tables of these schemas, and what stands in it
-unfoldable pub select : List Schema → SelectAst → Selecting
-select schemas = fold-SelectAst Reading Joining Selecting (reading schemas) joining selecting
+-- a select over these tables, and what stands in it
+unfoldable pub select : List Table → SelectAst → Selecting
+select tables = fold-SelectAst Reading Joining Selecting (reading tables) joining selecting
 
-unfoldable pub reading_of : List Schema → FromAst → Reading
-reading_of schemas = fold-FromAst Reading Joining Selecting (reading schemas) joining selecting
+unfoldable pub reading_of : List Table → FromAst → Reading
+reading_of tables = fold-FromAst Reading Joining Selecting (reading tables) joining selecting
 
-unfoldable pub joining_of : List Schema → JoinAst → Joining
-joining_of schemas = fold-JoinAst Reading Joining Selecting (reading schemas) joining selecting
+unfoldable pub joining_of : List Table → JoinAst → Joining
+joining_of tables = fold-JoinAst Reading Joining Selecting (reading tables) joining selecting

@@ -1,5 +1,5 @@
 -- Meaning: the tables that a script declares, tested in the order of their statements, each at its place.
-use Rattle.std.specs.Prelude.{ℕ, suc, take, slice_get, Option, Some, None, not, ◌&&◌, ◌||◌, Bool, true, false, codes, List, [], ◌∷◌, ◌++◌, Ok}
+use Rattle.std.specs.Prelude.{ℕ, not, ◌&&◌, ◌||◌, Bool, true, false, codes, List, [], ◌∷◌, ◌++◌, map, Ok, if◌then◌else◌}
 use Rattle.dfx_value.specs.declared.kind.Kind.{Kind}
 use Rattle.sql_grammar.specs.declared.ast.TableAst.{TableAst}
 use Rattle.expr_binder.specs.declared.refusal.Why.TheVariants as why
@@ -7,6 +7,7 @@ use Rattle.expr_binder.specs.declared.scope.Column.{Column}
 use Rattle.expr_binder.specs.Answer.{Answer, ◌>>=◌, refuse, refuse_if}
 use Rattle.expr_binder.specs.Scopes.{Columns, is_text}
 use Rattle.sql_binder.specs.declared.schema.Schema.{Schema}
+use Rattle.sql_binder.specs.declared.table.Table.{Table}
 
 abbrev pub is_empty : {A : Type 0} → List A → Bool
 is_empty [] = true
@@ -20,9 +21,21 @@ abbrev pub has_twice : List (List ℕ) → Bool
 has_twice [] = false
 has_twice (n ∷ ns) = is_among n ns || has_twice ns
 
--- an Arrow table has the columns of its files, and declares none; each table has a column
+-- ---- columns
+
+-- those that a statement declares
+abbrev pub declared : List (List ℕ × Kind) → Schema
+declared columns = record { names = map (λ c. c.0) columns; kinds = map (λ c. c.1) columns }
+
+-- An Arrow table has the columns of its files, another one those of its statement.
+abbrev pub schema_of : TableAst → Schema → Schema
+schema_of t files = if t.arrow then files else declared t.columns
+
+-- each table has a column, and an Arrow table declares none
 abbrev pub has_wrong_columns : TableAst → Schema → Bool
 has_wrong_columns t s = is_empty s.names || (t.arrow && not (is_empty t.columns))
+
+-- ---- options
 
 -- the one option is that a CSV file has a header
 abbrev pub is_header : List ℕ × List ℕ → Bool
@@ -32,28 +45,27 @@ abbrev pub has_other_option : List (List ℕ × List ℕ) → Bool
 has_other_option [] = false
 has_other_option (o ∷ os) = not (is_header o) || has_other_option os
 
-abbrev pub declares : List ℕ → List Schema → Bool
+-- ---- tables
+
+abbrev pub declares : List ℕ → List Table → Bool
 declares name [] = false
-declares name (s ∷ ss) = is_text s.table name || declares name ss
+declares name (t ∷ ts) = is_text t.name name || declares name ts
 
--- one table behind others
-abbrev pub table_tested : List Schema → TableAst → Schema → Answer (Unit {0})
-table_tested before t s =
+-- a table with these columns behind others
+abbrev pub table : List Table → TableAst → Schema → Answer Table
+table before t s =
     refuse_if (has_wrong_columns t s || has_other_option t.options) why.Unsupported t.place
-    (refuse_if (declares t.name before || has_twice s.names) why.Ambiguous t.place (Ok tt))
+    (refuse_if (declares t.name before || has_twice s.names) why.Ambiguous t.place
+    (Ok (record { name = t.name; names = s.names; kinds = s.kinds })))
 
--- the table of a number, which has a schema
-abbrev pub tested_with : List Schema → TableAst → Option Schema → Answer (Unit {0})
-tested_with before t None = refuse why.Unsupported t.place
-tested_with before t (Some s) = table_tested before t s
+-- the tables of statements, each with a schema, behind those that are done
+abbrev pub tables_after : List Table → List TableAst → List Schema → Answer (List Table)
+tables_after done [] schemas = Ok done
+tables_after done (t ∷ ts) [] = refuse why.Unsupported t.place
+tables_after done (t ∷ ts) (s ∷ ss) = table done t (schema_of t s) >>= λ x. tables_after (done ++ x ∷ []) ts ss
 
--- the tables from number k on, each behind the schemas of those before
-abbrev pub tested_from : List Schema → ℕ → List TableAst → Answer (Unit {0})
-tested_from schemas k [] = Ok tt
-tested_from schemas k (t ∷ ts) = tested_with (take k schemas) t (slice_get schemas k) >>= λ _. tested_from schemas (suc k) ts
-
-abbrev pub tables_tested : List TableAst → List Schema → Answer (Unit {0})
-tables_tested tables schemas = tested_from schemas 0 tables
+abbrev pub tables : List TableAst → List Schema → Answer (List Table)
+tables statements schemas = tables_after [] statements schemas
 
 -- columns of these names and kinds under an alias
 abbrev pub columns_under : List ℕ → List (List ℕ) → List Kind → Columns

@@ -1,6 +1,6 @@
 //! The columns that the items of a select give.
 
-ghost use Rattle.std.specs.Prelude.{◌≡◌, ◌<◌, ◌++◌, ◌∷◌, [], All, IfOk, length, codes};
+ghost use Rattle.std.specs.Prelude.{◌≡◌, ◌<◌, ◌+◌, ◌++◌, ◌∷◌, [], All, IfOk, Some, length, codes};
 ghost use Rattle.std.specs.Option.{option_copied};
 ghost use Rattle.expr_binder.specs.Answer.{Gives};
 ghost use Rattle.std.specs.Fmt.{decimal};
@@ -240,6 +240,70 @@ fn outputs_of(
     }
 }
 
+/// How many columns stand under an alias.
+fn count_under(columns: &[Column], alias: &Text) -> usize
+    ensures { result ≡ length (spec.given (Some alias.now) columns.now) }
+{
+    let mut count = 0;
+    for number in 0..columns.len() {
+        if is_under(alias, &columns[number]) {
+            count += 1;
+        }
+    }
+    count
+}
+
+/// How many columns an item gives.
+#[tactic(auto, using(crate::proofs::AllGiven::all_given), unfolding(crate::specs::Items::width_of))]
+pub fn width_of(columns: &[Column], item: &ItemAst) -> usize
+    ensures { result ≡ spec.width_of columns.now item.now }
+{
+    match item {
+        ItemAst::All { place: _ } => columns.len(),
+        ItemAst::AllOf { name, place: _ } => count_under(columns, name),
+        ItemAst::One { expr: _, name: _ } => 1,
+    }
+}
+
+/// A select gives no more columns than this.
+const MOST_COLUMNS: usize = 16_384;
+
+/// Whether so many columns, and so many behind them, are more than a select may give.
+fn are_too_many(before: usize, width: usize) -> bool
+    ensures { result ≡ spec.are_too_many (before + width) }
+{
+    match before.checked_add(width) {
+        Some(count) => count > MOST_COLUMNS,
+        None => true,
+    }
+}
+
+fn place_of_item(item: &ItemAst) -> u32
+    ensures { result ≡ spec.place_of_item item.now }
+{
+    match item {
+        ItemAst::All { place } => *place,
+        ItemAst::AllOf { name: _, place } => *place,
+        ItemAst::One { expr, name: _ } => expr.place,
+    }
+}
+
+/// The columns of an item behind `before` others. Unsupported where they are too many with it; then it isn't bound.
+fn outputs_behind(
+    alloc: Global,
+    columns: &[Column],
+    over: Option<&Grouping<'_>>,
+    before: usize,
+    item: &ItemAst,
+) -> Result<Seq<Output>, Unbound>
+    ensures { Gives result (spec.outputs_behind columns.now (option_copied over.entry) before item.now) }
+{
+    if are_too_many(before, width_of(columns, item)) {
+        return Err(Unbound::from(Refusal::new(Why::Unsupported, place_of_item(item))));
+    }
+    outputs_of(alloc, columns, over, before + 1, item)
+}
+
 fn appended(done: Seq<Output>, more: Seq<Output>) -> Result<Seq<Output>, NoMemory>
     ensures { IfOk result (λ all. all ≡ done ++ more) }
 {
@@ -260,8 +324,7 @@ pub fn outputs(
 {
     let mut done = Seq::from_vec(Vec::new(alloc));
     for item in items {
-        let position = done.len() + 1;
-        let more = outputs_of(alloc, columns, over, position, item)?;
+        let more = outputs_behind(alloc, columns, over, done.len(), item)?;
         done = appended(done, more)?;
     }
     Ok(done)

@@ -12,6 +12,7 @@ mod schema;
 mod selected;
 mod selects;
 mod sources;
+mod table;
 mod tables;
 mod unions;
 

@@ -5,7 +5,7 @@ ghost use Rattle.expr_binder.specs.Literals.{has_point as has_point_in};
 ghost use Rattle.expr_binder.specs.Answer.{Gives};
 ghost use Rattle.sql_binder.specs.Orders as spec;
 
-use crate::items::is_column;
+use crate::items::{is_column, width_of};
 use crate::sources::{is_under, small};
 use dfx_value::{Kind, NoMemory, ParseRefused, Seq, SortKey, Text, Value, parse_value};
 use expr_binder::{Column, Refusal, Unbound, Why, same};
@@ -49,19 +49,6 @@ fn place_under(columns: &[Column], alias: &Text, key: &ExprAst) -> Option<usize>
     None
 }
 
-/// How many columns stand under an alias.
-fn count_under(columns: &[Column], alias: &Text) -> usize
-    ensures { result ≡ length (spec.column_tests columns.now (Some alias.now)) }
-{
-    let mut count = 0;
-    for number in 0..columns.len() {
-        if is_under(alias, &columns[number]) {
-            count += 1;
-        }
-    }
-    count
-}
-
 /// The first of an item's columns that a key equals.
 #[tactic(auto, unfolding(crate::specs::Orders::place_in))]
 fn place_in(columns: &[Column], item: &ItemAst, key: &ExprAst) -> Option<usize>
@@ -77,18 +64,6 @@ fn place_in(columns: &[Column], item: &ItemAst, key: &ExprAst) -> Option<usize>
                 None
             }
         }
-    }
-}
-
-/// How many columns an item gives.
-#[tactic(auto, using(crate::proofs::AllGiven::all_given), unfolding(crate::specs::Orders::width_of))]
-fn width_of(columns: &[Column], item: &ItemAst) -> usize
-    ensures { result ≡ spec.width_of columns.now item.now }
-{
-    match item {
-        ItemAst::All { place: _ } => columns.len(),
-        ItemAst::AllOf { name, place: _ } => count_under(columns, name),
-        ItemAst::One { expr: _, name: _ } => 1,
     }
 }
 

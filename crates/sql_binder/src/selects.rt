@@ -9,9 +9,9 @@ ghost use Rattle.sql_binder.specs.Sources as sources;
 use crate::aggregates::{aggregated, arguments, calls, is_grouped, kept, numbered};
 use crate::clauses::{Clauses, clauses};
 use crate::items::{Output, outputs, taken_apart};
-use crate::schema::Schema;
 use crate::selected::Selected;
 use crate::sources::{Source, derived, filtered, has_alias, join_sources, table};
+use crate::table::Table;
 use crate::unions::united;
 use dfx_value::{Kind, NoMemory, Seq, Text};
 use expr_binder::{Column, Refusal, Unbound, Why};
@@ -119,11 +119,11 @@ fn selected(alloc: Global, select: &SelectAst, source: Source) -> Result<Selecte
 #[cycle(select)]
 fn read(
     alloc: Global,
-    schemas: &[Schema],
+    tables: &[Table],
     before: &[Column],
     from: &FromAst,
 ) -> Result<Source, Unbound>
-    ensures { Gives result (sources.under_new_alias before.now (spec.reading_of schemas.now from.now)) }
+    ensures { Gives result (sources.under_new_alias before.now (spec.reading_of tables.now from.now)) }
 {
     match from {
         FromAst::Named {
@@ -131,7 +131,7 @@ fn read(
             alias,
             place,
         } => {
-            let source = table(alloc, schemas, *place, name, alias)?;
+            let source = table(alloc, tables, *place, name, alias)?;
             under_new_alias(before, alias, *place, source)
         }
         FromAst::Derived {
@@ -139,7 +139,7 @@ fn read(
             alias,
             place,
         } => {
-            let selected = bind_parts(alloc, schemas, parts.as_slice())?;
+            let selected = bind_parts(alloc, tables, parts.as_slice())?;
             let source = derived(alloc, alias, selected)?;
             under_new_alias(before, alias, *place, source)
         }
@@ -165,13 +165,13 @@ fn under_new_alias(
 #[cycle(select)]
 fn read_join(
     alloc: Global,
-    schemas: &[Schema],
+    tables: &[Table],
     join: &JoinAst,
     left: Source,
 ) -> Result<Source, Unbound>
-    ensures { Gives result (sources.joined left (spec.joining_of schemas.now join.now)) }
+    ensures { Gives result (sources.joined left (spec.joining_of tables.now join.now)) }
 {
-    let right = read(alloc, schemas, left.columns.as_slice(), &join.right)?;
+    let right = read(alloc, tables, left.columns.as_slice(), &join.right)?;
     join_sources(alloc, join.kind, left, right, &join.on)
 }
 
@@ -180,15 +180,15 @@ fn read_join(
 #[cycle(select)]
 fn read_joins(
     alloc: Global,
-    schemas: &[Schema],
+    tables: &[Table],
     joins: &[JoinAst],
     first: Source,
 ) -> Result<Source, Unbound>
-    ensures { Gives result (sources.all_joined first (map (spec.joining_of schemas.now) joins.now)) }
+    ensures { Gives result (sources.all_joined first (map (spec.joining_of tables.now) joins.now)) }
 {
     let mut source = first;
     for join in joins {
-        source = read_join(alloc, schemas, join, source)?;
+        source = read_join(alloc, tables, join, source)?;
     }
     Ok(source)
 }
@@ -196,11 +196,11 @@ fn read_joins(
 /// One select: FROM with its joins, WHERE, and what the items are over that.
 #[tactic(auto, using(crate::proofs::SelectSteps::selects))]
 #[cycle(select)]
-fn bind_select(alloc: Global, schemas: &[Schema], select: &SelectAst) -> Result<Selected, Unbound>
-    ensures { Gives result (spec.select schemas.now select.now).select }
+fn bind_select(alloc: Global, tables: &[Table], select: &SelectAst) -> Result<Selected, Unbound>
+    ensures { Gives result (spec.select tables.now select.now).select }
 {
-    let first = read(alloc, schemas, &[], &select.first)?;
-    let source = read_joins(alloc, schemas, select.joins.as_slice(), first)?;
+    let first = read(alloc, tables, &[], &select.first)?;
+    let source = read_joins(alloc, tables, select.joins.as_slice(), first)?;
     let source = filtered(alloc, &select.test, source)?;
     selected(alloc, select, source)
 }
@@ -209,14 +209,14 @@ fn bind_select(alloc: Global, schemas: &[Schema], select: &SelectAst) -> Result<
 #[cycle(select)]
 fn bind_all(
     alloc: Global,
-    schemas: &[Schema],
+    tables: &[Table],
     parts: &[SelectAst],
 ) -> Result<Seq<(u32, Selected)>, Unbound>
-    ensures { Gives result (each spec.placed (map (spec.select schemas.now) parts.now)) }
+    ensures { Gives result (each spec.placed (map (spec.select tables.now) parts.now)) }
 {
     let mut done = Vec::new(alloc);
     for part in parts {
-        let selected = bind_select(alloc, schemas, part)?;
+        let selected = bind_select(alloc, tables, part)?;
         done.push((part.place, selected))?;
     }
     Ok(Seq::from_vec(done))
@@ -226,11 +226,11 @@ fn bind_all(
 #[cycle(select)]
 pub fn bind_parts(
     alloc: Global,
-    schemas: &[Schema],
+    tables: &[Table],
     parts: &[SelectAst],
 ) -> Result<Selected, Unbound>
-    ensures { Gives result (spec.union_of (map (spec.select schemas.now) parts.now)) }
+    ensures { Gives result (spec.union_of (map (spec.select tables.now) parts.now)) }
 {
-    let done = bind_all(alloc, schemas, parts)?;
+    let done = bind_all(alloc, tables, parts)?;
     united(alloc, done.into_vec())
 }

@@ -9,8 +9,8 @@ ghost use Rattle.expr_binder.specs.declared.refusal.Why.TheVariants as why;
 ghost use Rattle.join_lowering.specs.Lowering.{lowered};
 ghost use Rattle.sql_binder.specs.Sources as spec;
 
-use crate::schema::Schema;
 use crate::selected::Selected;
+use crate::table::Table;
 use crate::tables::columns_under;
 use dfx_value::{JoinKind, Kind, NoMemory, Seq, Text};
 use expr_binder::{Column, Refusal, Unbound, Why, bind_expr, tested};
@@ -61,14 +61,14 @@ fn scanned(alloc: Global, table: usize, columns: Vec<Column>) -> Result<Source, 
     })
 }
 
-/// The place of the first table of this name.
-fn place_of_table(schemas: &[Schema], name: &Text) -> Option<usize>
-    ensures place { result ≡ spec.place_of_table schemas.now name.now }
-    ensures within { IfSome result (λ at. at < length schemas.now) }
+/// The number of the first table of this name.
+fn number_of_table(tables: &[Table], name: &Text) -> Option<usize>
+    ensures number { result ≡ spec.number_of_table tables.now name.now }
+    ensures within { IfSome result (λ k. k < length tables.now) }
 {
-    for at in 0..schemas.len() {
-        if schemas[at].table == *name {
-            return Some(at);
+    for number in 0..tables.len() {
+        if tables[number].name == *name {
+            return Some(number);
         }
     }
     None
@@ -77,24 +77,24 @@ fn place_of_table(schemas: &[Schema], name: &Text) -> Option<usize>
 /// The rows of a table under an alias. UnknownTable where there is none of this name.
 pub fn table(
     alloc: Global,
-    schemas: &[Schema],
+    tables: &[Table],
     place: u32,
     name: &Text,
     alias: &Text,
 ) -> Result<Source, Unbound>
-    ensures { Gives result (spec.table schemas.now place name.now alias.now) }
+    ensures { Gives result (spec.table tables.now place name.now alias.now) }
 {
-    match place_of_table(schemas, name) {
+    match number_of_table(tables, name) {
         None => Err(Unbound::from(Refusal::new(Why::UnknownTable, place))),
-        Some(at) => {
-            let schema = &schemas[at];
+        Some(number) => {
+            let table = &tables[number];
             let columns = columns_under(
                 alloc,
                 alias,
-                schema.names.as_slice(),
-                schema.kinds.as_slice(),
+                table.names.as_slice(),
+                table.kinds.as_slice(),
             )?;
-            Ok(scanned(alloc, at, columns)?)
+            Ok(scanned(alloc, number, columns)?)
         }
     }
 }

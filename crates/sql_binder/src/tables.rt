@@ -1,11 +1,13 @@
 //! The tables that a script declares.
 
-ghost use Rattle.std.specs.Prelude.{◌≡◌, IfOk, take, slice_get};
+ghost use Rattle.std.specs.Prelude.{◌≡◌, IfOk};
+ghost use Rattle.expr_binder.specs.Answer.{Gives};
 ghost use Rattle.sql_binder.specs.Tables as spec;
 
 use crate::schema::Schema;
-use dfx_value::{Kind, NoMemory, Text};
-use expr_binder::{Column, Refusal, Why};
+use crate::table::Table;
+use dfx_value::{Kind, NoMemory, Seq, Text};
+use expr_binder::{Column, Refusal, Unbound, Why};
 use sql_grammar::ast::TableAst;
 use std::alloc::Global;
 
@@ -50,53 +52,88 @@ fn has_other_option(options: &[(Text, Text)]) -> bool
     false
 }
 
-fn declares(name: &Text, schemas: &[Schema]) -> bool
-    ensures { result ≡ spec.declares name.now schemas.now }
+fn declares(name: &Text, tables: &[Table]) -> bool
+    ensures { result ≡ spec.declares name.now tables.now }
 {
-    for schema in schemas {
-        if schema.table == *name {
+    for table in tables {
+        if table.name == *name {
             return true;
         }
     }
     false
 }
 
-/// An Arrow table has the columns of its files, and declares none; each table has a column.
-fn has_wrong_columns(table: &TableAst, schema: &Schema) -> bool
-    ensures { result ≡ spec.has_wrong_columns table.now schema.now }
+/// An Arrow table has the columns of its files, another one those of its statement.
+fn schema_of(alloc: Global, statement: &TableAst, files: &Schema) -> Result<Schema, NoMemory>
+    ensures { IfOk result (λ schema. schema ≡ spec.schema_of statement.now files.now) }
 {
-    schema.names.len() == 0 || (table.arrow && table.columns.len() > 0)
-}
-
-fn table_tested(before: &[Schema], table: &TableAst, schema: &Schema) -> Result<(), Refusal>
-    ensures { result ≡ spec.table_tested before.now table.now schema.now }
-{
-    if has_wrong_columns(table, schema) || has_other_option(table.options.as_slice()) {
-        return Err(Refusal::new(Why::Unsupported, table.place));
-    }
-    if declares(&table.name, before) || has_twice(schema.names.as_slice()) {
-        return Err(Refusal::new(Why::Ambiguous, table.place));
-    }
-    Ok(())
-}
-
-fn tested_with(table: &TableAst, schemas: &[Schema], at: usize) -> Result<(), Refusal>
-    ensures { result ≡ spec.tested_with (take at schemas.now) table.now (slice_get schemas.now at) }
-{
-    match schemas.get(at) {
-        Some(schema) => table_tested(&schemas[..at], table, schema),
-        None => Err(Refusal::new(Why::Unsupported, table.place)),
+    if statement.arrow {
+        files.copy(alloc)
+    } else {
+        Schema::declared(alloc, statement.columns.as_slice())
     }
 }
 
-/// Tests the tables in the order of their statements, each against its schema and those before.
-pub fn tables_tested(tables: &[TableAst], schemas: &[Schema]) -> Result<(), Refusal>
-    ensures { result ≡ spec.tables_tested tables.now schemas.now }
+/// Each table has a column, and an Arrow table declares none.
+fn has_wrong_columns(statement: &TableAst, schema: &Schema) -> bool
+    ensures { result ≡ spec.has_wrong_columns statement.now schema.now }
 {
-    for (at, table) in tables.iter().enumerate() {
-        tested_with(table, schemas, at)?;
+    schema.names.len() == 0 || (statement.arrow && statement.columns.len() > 0)
+}
+
+fn table_with(
+    alloc: Global,
+    before: &[Table],
+    statement: &TableAst,
+    schema: Schema,
+) -> Result<Table, Unbound>
+    ensures { Gives result (spec.table before.now statement.now schema) }
+{
+    if has_wrong_columns(statement, &schema) || has_other_option(statement.options.as_slice()) {
+        return Err(Unbound::from(Refusal::new(Why::Unsupported, statement.place)));
     }
-    Ok(())
+    if declares(&statement.name, before) || has_twice(schema.names.as_slice()) {
+        return Err(Unbound::from(Refusal::new(Why::Ambiguous, statement.place)));
+    }
+    Ok(Table {
+        name: statement.name.copy(alloc)?,
+        names: schema.names,
+        kinds: schema.kinds,
+    })
+}
+
+/// The table of a statement behind others, over files of this schema.
+fn table(
+    alloc: Global,
+    before: &[Table],
+    statement: &TableAst,
+    files: &Schema,
+) -> Result<Table, Unbound>
+    ensures { Gives result (spec.table before.now statement.now (spec.schema_of statement.now files.now)) }
+{
+    let schema = schema_of(alloc, statement, files)?;
+    table_with(alloc, before, statement, schema)
+}
+
+/// The tables of a script, each tested behind those before. A statement without a schema is Unsupported.
+pub fn tables(
+    alloc: Global,
+    statements: &[TableAst],
+    schemas: &[Schema],
+) -> Result<Seq<Table>, Unbound>
+    ensures { Gives result (spec.tables statements.now schemas.now) }
+{
+    let mut done = Vec::new(alloc);
+    for at in 0..statements.len() {
+        let statement = &statements[at];
+        match schemas.get(at) {
+            Some(files) => done.push(table(alloc, done.as_slice(), statement, files)?)?,
+            None => {
+                return Err(Unbound::from(Refusal::new(Why::Unsupported, statement.place)));
+            }
+        }
+    }
+    Ok(Seq::from_vec(done))
 }
 
 fn column_under(alloc: Global, alias: &Text, name: &Text, kind: Kind) -> Result<Column, NoMemory>

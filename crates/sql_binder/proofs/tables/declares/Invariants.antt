@@ -3,5 +3,5 @@ use Rattle.sql_binder.specs.Tables as spec
 use Rattle.sql_binder.proofs.tables.declares.Given as goal
 
 -- none so far
-abbrev pub invariant-loop-schema : goal.invariant-loop-schema
-invariant-loop-schema l = spec.declares l.name (drop l.schema-index l.schemas) ≡ spec.declares l.name l.schemas
+abbrev pub invariant-loop-table : goal.invariant-loop-table
+invariant-loop-table l = spec.declares l.name (drop l.table-index l.tables) ≡ spec.declares l.name l.tables
