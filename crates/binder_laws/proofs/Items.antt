@@ -18,14 +18,17 @@ use Rattle.expr_binder.specs.Typed.{Kinded, settled, tested}
 use Rattle.expr_binder.specs.Groups.{Groups}
 use Rattle.expr_binder.specs.Meaning.{meaning, place_of}
 use Rattle.join_lowering.specs.Keys.{columns as columns_of}
-use Rattle.sql_binder.specs.declared.items.Output.{Output}
+use Rattle.logical_build.specs.declared.outputs.Output.{Output}
+use Rattle.logical_build.specs.Calls.{argument, of_column, numbered, arguments_of}
+use Rattle.logical_build.specs.Groups.{columns_from, first_columns, key_kinds, aggregated, kept, exprs as key_exprs}
+use Rattle.logical_build.specs.Outputs.{exprs, distinct_if}
 use Rattle.sql_binder.specs.declared.selected.Selected.{Selected}
 use Rattle.sql_binder.specs.declared.clauses.Clauses.{Clauses}
 use Rattle.sql_binder.specs.declared.sources.Source.{Source}
-use Rattle.sql_binder.specs.Items.{outputs, exprs}
-use Rattle.sql_binder.specs.Grouped.{is_number, key, keys, calls, is_grouped, argument, of_column, numbered, arguments_of, settled_expr, arguments, columns_from, first_columns, key_kinds, aggregated, having, kept, exprs as key_exprs}
+use Rattle.sql_binder.specs.Items.{outputs}
+use Rattle.sql_binder.specs.Grouped.{is_number, key, keys, calls, is_grouped, settled_expr, arguments, having}
 use Rattle.sql_binder.specs.Orders.{item_tests}
-use Rattle.sql_binder.specs.Selects.{Parts, distinct_if, projected, plain, over_keys, clauses, groups_body, grouped, selected}
+use Rattle.sql_binder.specs.Selects.{Parts, projected, plain, over_keys, clauses, groups_body, grouped, selected}
 use Rattle.physical_plan.proofs.Everywhere.{both_true}
 use Rattle.range_laws.specs.Ranges.{are_below, call_column, call_columns, expr_columns}
 use Rattle.range_laws.specs.Queries.{body_width, body_in_range}

@@ -13,9 +13,10 @@ use Rattle.expr_binder.specs.Typed.{settled}
 use Rattle.expr_binder.specs.Groups.{Groups, Over}
 use Rattle.expr_binder.specs.Meaning.{meaning}
 use Rattle.join_lowering.specs.Keys.{columns as columns_of}
-use Rattle.sql_binder.specs.declared.items.Output.{Output}
+use Rattle.logical_build.specs.declared.outputs.Output.{Output}
+use Rattle.logical_build.specs.Outputs.{exprs}
 use Rattle.sql_binder.specs.Each.{each}
-use Rattle.sql_binder.specs.Items.{star, of_key, key_from, name_at, stars, given, is_given, is_column, expr_output, item_name, output, outputs_of, are_too_many, width_of, place_of_item, outputs_behind, outputs_after, outputs, exprs}
+use Rattle.sql_binder.specs.Items.{star, of_key, key_from, name_at, stars, given, is_given, is_column, expr_output, item_name, output, outputs_of, are_too_many, width_of, place_of_item, outputs_behind, outputs_after, outputs}
 use Rattle.sql_binder.specs.Orders.{tests_of, column_tests, item_tests}
 use Rattle.physical_plan.proofs.Everywhere.{both_true, and_parts}
 use Rattle.range_laws.specs.Ranges.{are_below, expr_columns}

@@ -1,6 +1,4 @@
-pub mod Uneven
-pub mod FirstColumns
 pub mod SelectSteps
 pub mod AllGiven
-pub mod FirstPlaces
+pub mod FirstNumbers
 pub mod Shorter

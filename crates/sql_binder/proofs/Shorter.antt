@@ -3,22 +3,13 @@ use Rattle.std.proofs.Common.{◌≡◌, refl, ap, sym, ◌∙◌, ℕ, List, []
 use Rattle.std.proofs.Math.ListN.{drop_of_length-le}
 use Rattle.std.proofs.lemmas.List.{append-nil}
 use Rattle.dfx_value.specs.declared.kind.Kind.{Kind}
-use Rattle.scalar_exprs.specs.declared.expr.Expr.{Expr}
 use Rattle.expr_binder.specs.Scopes.{Columns}
 use Rattle.sql_binder.specs.Tables.{columns_under}
-use Rattle.sql_binder.specs.Unions.{casts}
-
-casts_of_none : (k : ℕ) (us : List Kind) → casts k us [] ≡ []
-casts_of_none k [] = refl
-casts_of_none k (u ∷ us) = refl
 
 columns_of_none : (alias : List ℕ) (ns : List (List ℕ)) → columns_under alias ns [] ≡ []
 columns_of_none alias [] = refl
 columns_of_none alias (n ∷ ns) = refl
 
 -- those so far are all
-pub all_cast : (k : ℕ) (us js : List Kind) (done all : List Expr) → length js ≤ k → done ++ casts k (drop k us) (drop k js) ≡ all → done ≡ all
-all_cast k us js done all h e = sym (append-nil done) ∙ sym (ap (λ (xs : List Expr). done ++ xs) (ap (casts k (drop k us)) (drop_of_length-le js h) ∙ casts_of_none k (drop k us))) ∙ e
-
 pub all_named : (alias : List ℕ) (k : ℕ) (ns : List (List ℕ)) (ks : List Kind) (done all : Columns) → length ks ≤ k → done ++ columns_under alias (drop k ns) (drop k ks) ≡ all → done ≡ all
 all_named alias k ns ks done all h e = sym (append-nil done) ∙ sym (ap (λ (xs : Columns). done ++ xs) (ap (columns_under alias (drop k ns)) (drop_of_length-le ks h) ∙ columns_of_none alias (drop k ns))) ∙ e

@@ -1,4 +1,4 @@
--- Meaning: the query of a script over tables, or the first refusal. The schemas are those of the tables' files, one a statement.
+-- Meaning: the query of a script, or the first refusal. Each table has a schema, that of its files.
 use Rattle.std.specs.Prelude.{ℕ, Option, Some, None, List, [], ◌∷◌, map, Ok}
 use Rattle.logical_plan.specs.declared.query.Query.{Query}
 use Rattle.sql_grammar.specs.declared.ast.Script.{Script}
@@ -25,4 +25,5 @@ query_of script s = order s.names (single s.columns script.parts) script.order >
 
 -- tables, then selects and their union, then ORDER BY, LIMIT and OFFSET
 abbrev pub bound : Script → List Schema → Answer Query
-bound script schemas = tables script.tables schemas >>= λ ts. union_of (map (select ts) script.parts) >>= query_of script
+bound script schemas = tables script.tables schemas >>= λ ts.
+    union_of (map (select ts) script.parts) >>= query_of script

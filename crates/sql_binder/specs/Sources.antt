@@ -48,7 +48,8 @@ kinds_at tables k = of_table (slice_get tables k) where
   of_table (Some t) = t.kinds
 
 abbrev pub table : List Table → ℕ → List ℕ → List ℕ → Answer Source
-table tables place name alias = or_refuse why.UnknownTable place (number_of_table tables name) >>= λ k.
+table tables place name alias =
+    or_refuse why.UnknownTable place (number_of_table tables name) >>= λ k.
     Ok (scanned k (columns_under alias (names_at tables k) (kinds_at tables k)))
 
 abbrev pub derived : List ℕ → Selected → Source

@@ -1,4 +1,4 @@
--- Meaning: the tables that a script declares, tested in the order of their statements, each at its place.
+-- Meaning: the tables that a script declares, each tested at its place, in the order of the stateme
 use Rattle.std.specs.Prelude.{ℕ, not, ◌&&◌, ◌||◌, Bool, true, false, codes, List, [], ◌∷◌, ◌++◌, map, Ok, if◌then◌else◌}
 use Rattle.dfx_value.specs.declared.kind.Kind.{Kind}
 use Rattle.sql_grammar.specs.declared.ast.TableAst.{TableAst}
@@ -62,7 +62,8 @@ table before t s =
 abbrev pub tables_after : List Table → List TableAst → List Schema → Answer (List Table)
 tables_after done [] schemas = Ok done
 tables_after done (t ∷ ts) [] = refuse why.Unsupported t.place
-tables_after done (t ∷ ts) (s ∷ ss) = table done t (schema_of t s) >>= λ x. tables_after (done ++ x ∷ []) ts ss
+tables_after done (t ∷ ts) (s ∷ ss) =
+    table done t (schema_of t s) >>= λ x. tables_after (done ++ x ∷ []) ts ss
 
 abbrev pub tables : List TableAst → List Schema → Answer (List Table)
 tables statements schemas = tables_after [] statements schemas

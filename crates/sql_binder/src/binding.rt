@@ -60,11 +60,12 @@ fn query(alloc: Global, script: &Script, schemas: &[Schema]) -> Result<Query, Un
     query_of(alloc, script, selected)
 }
 
-/// The query of a script over its tables. There is a schema for each statement of a table: that of its files where they are Arrow files;
-/// else it isn't read, since the statement declares the columns.
+/// The query of a script over its tables. Each statement of a table has a schema: that of its files, where they
+/// are Arrow files; else it isn't read, since the statement declares the columns.
 ///
-/// The refusal is the first one: the tables in order; then the selects in order, in each FROM with its joins, WHERE, GROUP BY, the items
-/// and HAVING, operands before their operator and from the left; then the union, ORDER BY, LIMIT and OFFSET.
+/// The refusal is the first one: the tables in order; then the selects in order, in each FROM with its joins, WHERE,
+/// GROUP BY, the items and HAVING, operands before their operator and from the left; then the union, ORDER BY, LIMIT
+/// and OFFSET.
 pub fn bind(alloc: Global, script: &Script, schemas: &[Schema]) -> Result<Query, BindRefused>
     ensures { IsBound result (spec.bound script.now schemas.now) }
 {

@@ -5,10 +5,11 @@ ghost use Rattle.expr_binder.specs.Answer.{Gives};
 ghost use Rattle.sql_binder.specs.Selects as spec;
 
 use crate::aggregates::having;
-use crate::groups::{key_kinds, keys};
-use crate::items::{Output, outputs};
+use crate::groups::keys;
+use crate::items::outputs;
 use dfx_value::{Kind, Seq};
 use expr_binder::{Column, Grouping, Unbound};
+use logical_build::{Output, key_kinds};
 use scalar_exprs::Expr;
 use sql_grammar::ast::{ExprAst, SelectAst};
 use std::alloc::Global;

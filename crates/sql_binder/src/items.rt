@@ -9,21 +9,13 @@ ghost use Rattle.expr_binder.specs.Meaning.{column_kind};
 ghost use Rattle.sql_binder.specs.Each.{each};
 ghost use Rattle.sql_binder.specs.Items as spec;
 
-use crate::sources::{is_under, is_unknown, small};
+use crate::sources::{is_under, is_unknown};
 use dfx_value::{Kind, NoMemory, Seq, Text};
 use expr_binder::{Column, Grouping, Refusal, Unbound, Why, bind_expr, column_of, settle};
+use logical_build::{Output, as_u32};
 use scalar_exprs::Expr;
 use sql_grammar::ast::{ExprAst, ItemAst, NodeAst};
-use sqlite_items::Items;
 use std::alloc::Global;
-
-/// A column of the answer.
-#[derive(Debug, Drop)]
-pub struct Output {
-    pub name: Text,
-    pub expr: Expr,
-    pub kind: Kind,
-}
 
 /// Whether an expression is the name of this column.
 #[tactic(auto, unfolding(crate::specs::Items::is_column))]
@@ -39,7 +31,7 @@ pub fn is_column(columns: &[Column], number: usize, expr: &ExprAst) -> bool
     }
 }
 
-/// The place of the first key that is this column.
+/// The number of the first key that is this column.
 fn key_of(columns: &[Column], number: usize, keys: &[ExprAst]) -> Option<usize>
     ensures { result ≡ spec.key_from columns.now number 0 keys.now }
 {
@@ -66,7 +58,7 @@ fn own_column(alloc: Global, column: &Column, number: usize) -> Result<Output, N
 {
     Ok(Output {
         name: column.name.copy(alloc)?,
-        expr: Expr::Column(small(number)?),
+        expr: Expr::Column(as_u32(number)?),
         kind: column.kind,
     })
 }
@@ -86,7 +78,7 @@ fn key_column(
         None => Err(Unbound::from(Refusal::new(Why::NotGrouped, place))),
         Some(key) => Ok(Output {
             name: column.name.copy(alloc)?,
-            expr: Expr::Column(small(key)?),
+            expr: Expr::Column(as_u32(key)?),
             kind: kind_of_key(grouping.kinds, key),
         }),
     }
@@ -288,7 +280,8 @@ fn place_of_item(item: &ItemAst) -> u32
     }
 }
 
-/// The columns of an item behind `before` others. Unsupported where they are too many with it; then it isn't bound.
+/// The columns of an item behind `before` others. Unsupported where they are too many with it, which then isn't
+/// bound.
 fn outputs_behind(
     alloc: Global,
     columns: &[Column],
@@ -328,35 +321,4 @@ pub fn outputs(
         done = appended(done, more)?;
     }
     Ok(done)
-}
-
-/// Columns of an answer, as lists of their parts.
-#[derive(Debug, Drop)]
-pub struct Lists {
-    pub names: Seq<Text>,
-    pub exprs: Items<Expr>,
-    pub kinds: Seq<Kind>,
-}
-
-/// The names, the expressions and the kinds, each in order.
-pub fn taken_apart(alloc: Global, outputs: Seq<Output>) -> Result<Lists, NoMemory>
-    ensures names { IfOk result (λ l. l.names ≡ spec.names outputs) }
-    ensures exprs { IfOk result (λ l. l.exprs ≡ spec.exprs outputs) }
-    ensures kinds { IfOk result (λ l. l.kinds ≡ spec.kinds outputs) }
-{
-    let outputs = outputs.into_vec();
-    let mut names = Vec::with_capacity(alloc, outputs.len())?;
-    let mut exprs = Items::new(alloc);
-    let mut kinds = Vec::with_capacity(alloc, outputs.len())?;
-    for output in outputs {
-        let Output { name, expr, kind } = output;
-        names.push(name)?;
-        exprs.push(expr)?;
-        kinds.push(kind)?;
-    }
-    Ok(Lists {
-        names: Seq::from_vec(names),
-        exprs,
-        kinds: Seq::from_vec(kinds),
-    })
 }

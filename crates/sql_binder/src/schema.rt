@@ -42,16 +42,6 @@ fn copied_names(alloc: Global, names: &[Text]) -> Result<Seq<Text>, NoMemory>
     Ok(Seq::from_vec(copy))
 }
 
-fn copied_kinds(alloc: Global, kinds: &[Kind]) -> Result<Seq<Kind>, NoMemory>
-    ensures { IfOk result (λ copy. copy ≡ kinds.now) }
-{
-    let mut copy = Vec::with_capacity(alloc, kinds.len())?;
-    for kind in kinds {
-        copy.push(*kind)?;
-    }
-    Ok(Seq::from_vec(copy))
-}
-
 impl Schema {
     /// The columns that a statement declares.
     pub fn declared(alloc: Global, columns: &[(Text, Kind)]) -> Result<Schema, NoMemory>
@@ -68,7 +58,7 @@ impl Schema {
     {
         Ok(Schema {
             names: copied_names(alloc, self.names.as_slice())?,
-            kinds: copied_kinds(alloc, self.kinds.as_slice())?,
+            kinds: Seq::from_vec(Vec::from_slice(alloc, self.kinds.as_slice())?),
         })
     }
 }

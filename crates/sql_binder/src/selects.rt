@@ -6,19 +6,19 @@ ghost use Rattle.sql_binder.specs.Each.{each};
 ghost use Rattle.sql_binder.specs.Selects as spec;
 ghost use Rattle.sql_binder.specs.Sources as sources;
 
-use crate::aggregates::{aggregated, arguments, calls, is_grouped, kept, numbered};
+use crate::aggregates::{arguments, calls, is_grouped};
 use crate::clauses::{Clauses, clauses};
-use crate::items::{Output, outputs, taken_apart};
+use crate::items::outputs;
 use crate::selected::Selected;
 use crate::sources::{Source, derived, filtered, has_alias, join_sources, table};
 use crate::table::Table;
 use crate::unions::united;
 use dfx_value::{Kind, NoMemory, Seq, Text};
 use expr_binder::{Column, Refusal, Unbound, Why};
+use logical_build::{Output, aggregated, kept, numbered, project};
 use logical_plan::Logical;
 use scalar_exprs::Expr;
 use sql_grammar::ast::{ExprAst, FromAst, ItemAst, JoinAst, SelectAst};
-use sqlite_items::Boxed;
 use std::alloc::Global;
 
 /// A Project of the items, and a Distinct on top where it is written.
@@ -31,22 +31,11 @@ fn projected(
 ) -> Result<Selected, NoMemory>
     ensures { IfOk result (λ s. s ≡ spec.projected distinct columns items body) }
 {
-    let lists = taken_apart(alloc, items)?;
-    let projected = Logical::Project {
-        input: Boxed::new(alloc, body)?,
-        items: lists.exprs,
-    };
-    let body = if distinct {
-        Logical::Distinct {
-            input: Boxed::new(alloc, projected)?,
-        }
-    } else {
-        projected
-    };
+    let (names, kinds, body) = project(alloc, distinct, items, body)?;
     Ok(Selected {
         columns,
-        names: lists.names,
-        kinds: lists.kinds,
+        names,
+        kinds,
         body,
     })
 }

@@ -15,6 +15,7 @@ use crate::tables::columns_under;
 use dfx_value::{JoinKind, Kind, NoMemory, Seq, Text};
 use expr_binder::{Column, Refusal, Unbound, Why, bind_expr, tested};
 use join_lowering::{Side, lower_join};
+use logical_build::as_u32;
 use logical_plan::Logical;
 use scalar_exprs::Expr;
 use sql_grammar::ast::ExprAst;
@@ -26,16 +27,6 @@ use std::alloc::Global;
 pub struct Source {
     pub columns: Seq<Column>,
     pub body: Logical,
-}
-
-/// The number, where it fits; that many columns fill more memory than there is.
-pub fn small(count: usize) -> Result<u32, NoMemory>
-    ensures { IfOk result (λ n. n ≡ count) }
-{
-    match u32::try_from(count) {
-        Ok(small) => Ok(small),
-        Err(_) => Err(NoMemory),
-    }
 }
 
 fn kinds_of(alloc: Global, columns: &[Column]) -> Result<Items<Kind>, NoMemory>
@@ -55,7 +46,7 @@ fn scanned(alloc: Global, table: usize, columns: Vec<Column>) -> Result<Source, 
     Ok(Source {
         columns: Seq::from_vec(columns),
         body: Logical::Scan {
-            table: small(table)?,
+            table: as_u32(table)?,
             kinds,
         },
     })
@@ -156,7 +147,7 @@ pub fn condition(alloc: Global, columns: &[Column], test: &ExprAst) -> Result<Ex
 fn side(body: Logical, columns: usize) -> Result<Side, NoMemory>
     ensures { IfOk result (λ side. side ≡ record { body = body; width = columns }) }
 {
-    let width = small(columns)?;
+    let width = as_u32(columns)?;
     Ok(Side { body, width })
 }
 

@@ -115,7 +115,7 @@ fn table(
     table_with(alloc, before, statement, schema)
 }
 
-/// The tables of a script, each tested behind those before. A statement without a schema is Unsupported.
+/// The tables of a script, each tested behind those before. One without a schema is Unsupported.
 pub fn tables(
     alloc: Global,
     statements: &[TableAst],
