@@ -5,12 +5,12 @@ use Rattle.sql_grammar.specs.declared.ast.Script.{Script}
 use Rattle.sql_grammar.specs.declared.ast.SelectAst.{SelectAst}
 use Rattle.sql_grammar.specs.declared.ast.FromAst.TheViews.{out-SelectAst}
 use Rattle.expr_binder.specs.Answer.{Answer, ◌>>=◌}
-use Rattle.sql_binder.specs.declared.schema.Schema.{Schema}
-use Rattle.sql_binder.specs.declared.table.Table.{Table}
+use Rattle.sql_tables.specs.declared.schema.Schema.{Schema}
+use Rattle.sql_tables.specs.declared.table.Table.{Table}
 use Rattle.sql_binder.specs.declared.selected.Selected.{Selected}
 use Rattle.sql_binder.specs.Orders.{Single, item_tests, order, limit, offset}
 use Rattle.sql_binder.specs.Selects.{Selecting, select, union_of}
-use Rattle.sql_binder.specs.Tables.{tables}
+use Rattle.sql_tables.specs.Tables.{tables}
 use Rattle.sql_binder.specs.Bound.{single, query_of, bound}
 use Rattle.range_laws.specs.Ranges.{are_below, key_columns}
 use Rattle.range_laws.specs.Queries.{body_width, QueryInRange}

@@ -19,10 +19,10 @@ use Rattle.expr_binder.specs.Scopes.{Columns, any_is, is_under}
 use Rattle.expr_binder.specs.Typed.{tested}
 use Rattle.expr_binder.specs.Meaning.{meaning, place_of}
 use Rattle.join_lowering.specs.Lowering.{lowered}
-use Rattle.sql_binder.specs.declared.table.Table.{Table}
+use Rattle.sql_tables.specs.declared.table.Table.{Table}
 use Rattle.sql_binder.specs.declared.sources.Source.{Source}
 use Rattle.sql_binder.specs.declared.selected.Selected.{Selected}
-use Rattle.sql_binder.specs.Tables.{columns_under}
+use Rattle.sql_tables.specs.Tables.{columns_under}
 use Rattle.sql_binder.specs.Sources.{kinds, scanned, number_of_table, names_at, kinds_at, table, derived, Reading, Joining, if_new, under_new_alias, condition, side, joined_body, joined_on, joined, all_joined, from, filtered}
 use Rattle.sql_binder.specs.Selects.{Parts, Selecting, union_of, selected, select, reading_of, joining_of}
 use Rattle.binder_laws.proofs.Trees.{select_is, joining_is, named_is, derived_is}

@@ -12,8 +12,8 @@ use Rattle.sql_grammar.specs.declared.refused.SyntaxRefused.{SyntaxRefused}
 use Rattle.expr_binder.specs.Answer.{Answer}
 use Rattle.sql_binder.specs.Bound.{bound}
 use Rattle.sql_binder.specs.Refusals.{named}
-use Rattle.sql_binder.specs.Tables.{declared}
-use Rattle.sql_binder.specs.declared.schema.Schema.{Schema}
+use Rattle.sql_tables.specs.Tables.{declared}
+use Rattle.sql_tables.specs.declared.schema.Schema.{Schema}
 use Rattle.logical_plan.specs.declared.query.Query.{Query}
 use Rattle.physical_plan.specs.declared.plan.Plan.{Plan}
 use Rattle.physical_build.specs.Build.{build}

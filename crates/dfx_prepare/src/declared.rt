@@ -4,8 +4,8 @@ ghost use Rattle.std.specs.Prelude.{◌≡◌, IfOk, length, map};
 ghost use Rattle.dfx_prepare.specs.Preparing as spec;
 
 use dfx_value::{NoMemory, Seq, Text};
-use sql_binder::Schema;
 use sql_grammar::ast::TableAst;
+use sql_tables::Schema;
 use std::alloc::Global;
 
 /// The columns of the tables as their statements declare them.

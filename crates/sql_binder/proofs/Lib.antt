@@ -1,4 +1,3 @@
 pub mod SelectSteps
 pub mod AllGiven
 pub mod FirstNumbers
-pub mod Shorter

@@ -13,7 +13,7 @@ use Rattle.expr_binder.specs.Answer.{Answer, ◌>>=◌}
 use Rattle.sql_binder.specs.declared.selected.Selected.{Selected}
 use Rattle.sql_binder.specs.Each.{each_after}
 use Rattle.sql_binder.specs.Unions.{Placed}
-use Rattle.sql_binder.specs.declared.table.Table.{Table}
+use Rattle.sql_tables.specs.declared.table.Table.{Table}
 use Rattle.sql_binder.specs.Sources.{Reading, Joining, table, derived, from, filtered}
 use Rattle.sql_binder.specs.Selects.{Selecting, placed, reading, joining, selecting, select, reading_of, joining_of, union_of, selected, parts}
 

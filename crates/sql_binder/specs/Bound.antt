@@ -6,11 +6,11 @@ use Rattle.sql_grammar.specs.declared.ast.SelectAst.{SelectAst}
 use Rattle.sql_grammar.specs.declared.ast.FromAst.TheViews.{out-SelectAst}
 use Rattle.expr_binder.specs.Answer.{Answer, ◌>>=◌}
 use Rattle.expr_binder.specs.Scopes.{Columns}
-use Rattle.sql_binder.specs.declared.schema.Schema.{Schema}
+use Rattle.sql_tables.specs.declared.schema.Schema.{Schema}
 use Rattle.sql_binder.specs.declared.selected.Selected.{Selected}
 use Rattle.sql_binder.specs.Orders.{Single, order, limit, offset}
 use Rattle.sql_binder.specs.Selects.{select, union_of}
-use Rattle.sql_binder.specs.Tables.{tables}
+use Rattle.sql_tables.specs.Tables.{tables}
 
 -- the items of the one select
 abbrev pub single : Columns → List SelectAst → Option Single

@@ -17,7 +17,7 @@ use Rattle.expr_binder.specs.Meaning.{meaning, place_of}
 use Rattle.logical_build.specs.Calls.{arguments_of}
 use Rattle.sql_binder.specs.Each.{each}
 use Rattle.expr_binder.specs.Calls.{with_expr, calls_of}
-use Rattle.sql_binder.specs.Tables.{is_empty}
+use Rattle.sql_tables.specs.Tables.{is_empty}
 
 -- ---- keys
 

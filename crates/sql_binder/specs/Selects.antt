@@ -13,7 +13,7 @@ use Rattle.expr_binder.specs.Scopes.{Columns}
 use Rattle.expr_binder.specs.Answer.{Answer, ◌>>=◌}
 use Rattle.expr_binder.specs.Groups.{Over}
 use Rattle.expr_binder.specs.Typed.{Kinded}
-use Rattle.sql_binder.specs.declared.table.Table.{Table}
+use Rattle.sql_tables.specs.declared.table.Table.{Table}
 use Rattle.sql_binder.specs.declared.sources.Source.{Source}
 use Rattle.sql_binder.specs.declared.selected.Selected.{Selected}
 use Rattle.sql_binder.specs.Each.{each}

@@ -14,10 +14,10 @@ use Rattle.expr_binder.specs.Typed.{tested}
 use Rattle.expr_binder.specs.Meaning.{meaning, place_of}
 use Rattle.join_lowering.specs.declared.lower.Side.{Side}
 use Rattle.join_lowering.specs.Lowering.{lowered}
-use Rattle.sql_binder.specs.declared.table.Table.{Table}
+use Rattle.sql_tables.specs.declared.table.Table.{Table}
 use Rattle.sql_binder.specs.declared.sources.Source.{Source}
 use Rattle.sql_binder.specs.declared.selected.Selected.{Selected}
-use Rattle.sql_binder.specs.Tables.{columns_under}
+use Rattle.sql_tables.specs.Tables.{columns_under}
 
 -- ---- a table, or a derived one
 

@@ -8,14 +8,13 @@ ghost use Rattle.sql_binder.specs.Refusals.{IsBound};
 
 use crate::orders::{Single, limit, offset, order};
 use crate::refused::BindRefused;
-use crate::schema::Schema;
 use crate::selected::Selected;
 use crate::selects::bind_parts;
-use crate::tables::tables;
 use dfx_value::{Seq, SortKey};
 use expr_binder::{Column, Unbound};
 use logical_plan::Query;
 use sql_grammar::ast::{Script, SelectAst};
+use sql_tables::{Schema, tables};
 use std::alloc::Global;
 
 fn single<'a>(columns: &'a [Column], parts: &'a [SelectAst]) -> Option<Single<'a>>

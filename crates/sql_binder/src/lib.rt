@@ -8,14 +8,11 @@ mod groups;
 mod items;
 mod orders;
 mod refused;
-mod schema;
 mod selected;
 mod selects;
 mod sources;
-mod table;
-mod tables;
 mod unions;
 
 pub use binding::bind;
 pub use refused::BindRefused;
-pub use schema::Schema;
+pub use sql_tables::Schema;

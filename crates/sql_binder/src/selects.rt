@@ -11,7 +11,6 @@ use crate::clauses::{Clauses, clauses};
 use crate::items::outputs;
 use crate::selected::Selected;
 use crate::sources::{Source, derived, filtered, has_alias, join_sources, table};
-use crate::table::Table;
 use crate::unions::united;
 use dfx_value::{Kind, NoMemory, Seq, Text};
 use expr_binder::{Column, Refusal, Unbound, Why};
@@ -19,6 +18,7 @@ use logical_build::{Output, aggregated, kept, numbered, project};
 use logical_plan::Logical;
 use scalar_exprs::Expr;
 use sql_grammar::ast::{ExprAst, FromAst, ItemAst, JoinAst, SelectAst};
+use sql_tables::Table;
 use std::alloc::Global;
 
 /// A Project of the items, and a Distinct on top where it is written.

@@ -10,8 +10,6 @@ ghost use Rattle.join_lowering.specs.Lowering.{lowered};
 ghost use Rattle.sql_binder.specs.Sources as spec;
 
 use crate::selected::Selected;
-use crate::table::Table;
-use crate::tables::columns_under;
 use dfx_value::{JoinKind, Kind, NoMemory, Seq, Text};
 use expr_binder::{Column, Refusal, Unbound, Why, bind_expr, tested};
 use join_lowering::{Side, lower_join};
@@ -19,6 +17,7 @@ use logical_build::as_u32;
 use logical_plan::Logical;
 use scalar_exprs::Expr;
 use sql_grammar::ast::ExprAst;
+use sql_tables::{Table, columns_under};
 use sqlite_items::{Boxed, Items};
 use std::alloc::Global;
 

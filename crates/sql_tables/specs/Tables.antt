@@ -6,8 +6,8 @@ use Rattle.expr_binder.specs.declared.refusal.Why.TheVariants as why
 use Rattle.expr_binder.specs.declared.scope.Column.{Column}
 use Rattle.expr_binder.specs.Answer.{Answer, ◌>>=◌, refuse, refuse_if}
 use Rattle.expr_binder.specs.Scopes.{Columns, is_text}
-use Rattle.sql_binder.specs.declared.schema.Schema.{Schema}
-use Rattle.sql_binder.specs.declared.table.Table.{Table}
+use Rattle.sql_tables.specs.declared.schema.Schema.{Schema}
+use Rattle.sql_tables.specs.declared.table.Table.{Table}
 
 abbrev pub is_empty : {A : Type 0} → List A → Bool
 is_empty [] = true

@@ -1,5 +1,5 @@
 ghost use Rattle.std.specs.Prelude.{◌≡◌, IfOk, map};
-ghost use Rattle.sql_binder.specs.Tables as spec;
+ghost use Rattle.sql_tables.specs.Tables as spec;
 
 use dfx_value::{Kind, NoMemory, Seq, Text};
 use std::alloc::Global;

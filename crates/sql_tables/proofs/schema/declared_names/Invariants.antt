@@ -1,5 +1,5 @@
 use Rattle.std.proofs.Common.{◌≡◌, take, map}
-use Rattle.sql_binder.proofs.schema.declared_names.Given as goal
+use Rattle.sql_tables.proofs.schema.declared_names.Given as goal
 
 -- those so far
 abbrev pub invariant-loop-column : goal.invariant-loop-column

@@ -4,7 +4,7 @@ use Rattle.std.proofs.Math.ListN.{drop_of_length-le}
 use Rattle.std.proofs.lemmas.List.{append-nil}
 use Rattle.dfx_value.specs.declared.kind.Kind.{Kind}
 use Rattle.expr_binder.specs.Scopes.{Columns}
-use Rattle.sql_binder.specs.Tables.{columns_under}
+use Rattle.sql_tables.specs.Tables.{columns_under}
 
 columns_of_none : (alias : List ℕ) (ns : List (List ℕ)) → columns_under alias ns [] ≡ []
 columns_of_none alias [] = refl

@@ -1,5 +1,5 @@
 use Rattle.std.proofs.Common.{◌≡◌, take}
-use Rattle.sql_binder.proofs.schema.copied_names.Given as goal
+use Rattle.sql_tables.proofs.schema.copied_names.Given as goal
 
 -- those so far
 abbrev pub invariant-loop-name : goal.invariant-loop-name

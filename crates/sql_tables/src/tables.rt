@@ -2,7 +2,7 @@
 
 ghost use Rattle.std.specs.Prelude.{◌≡◌, IfOk};
 ghost use Rattle.expr_binder.specs.Answer.{Gives};
-ghost use Rattle.sql_binder.specs.Tables as spec;
+ghost use Rattle.sql_tables.specs.Tables as spec;
 
 use crate::schema::Schema;
 use crate::table::Table;
