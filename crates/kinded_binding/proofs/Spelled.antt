@@ -11,14 +11,15 @@ use Rattle.sql_grammar.specs.declared.class.Class.{Class}
 use Rattle.sql_grammar.specs.declared.class.Class.TheVariants as c
 use Rattle.sql_grammar.specs.declared.ast.ItemAst.{ItemAst}
 use Rattle.sql_grammar.specs.declared.ast.FromAst.{FromAst}
+use Rattle.sql_grammar.specs.declared.ast.FromAst.TheVariants.{Named}
 use Rattle.sql_grammar.specs.declared.ast.JoinAst.{JoinAst}
 use Rattle.sql_grammar.specs.declared.ast.SelectAst.{SelectAst}
 use Rattle.sql_grammar.specs.declared.ast.TableAst.{TableAst}
 use Rattle.sql_grammar.specs.declared.ast.Script.{Script}
 use Rattle.sql_grammar.specs.Class.{Token, Tokens, among, starts}
 use Rattle.sql_grammar.specs.Phrase.{Limit, fits}
-use Rattle.sql_grammar.specs.Grammar.{Limits, limits, beyond, one}
-use Rattle.sql_grammar.specs.Trees.{is_within, small, or_zero, kind_of, or_empty, joined, select_of}
+use Rattle.sql_grammar.specs.Grammar.{Limits, limits, beyond, one, names, simple_types, forms}
+use Rattle.sql_grammar.specs.Trees.{is_within, small, or_zero, kind_of, or_empty, alias_or, joined, select_of}
 use Rattle.sql_grammar.specs.Reader.{Stop, Read, done, stop, unexpected, too_deep, too_many, Reader, and_then, ◌>>=◌, pure, matching, terminal, either, maybe, turns_within, turns, over, up_to, pay, charge, restore, apart_from, inside, ahead, at_end, only}
 use Rattle.sql_grammar.specs.Reading as r
 use Rattle.sql_grammar.specs.Reading.{Readers}
@@ -61,7 +62,7 @@ either_gives P cs f g h i n ts = choice P (starts cs ts) (f n ts) (g n ts) (h n 
 ahead_gives : {A : Type 0} (P : A → Type 0) (test : Tokens → Bool) (f g : Reader A) → Gives P f → Gives P g → Gives P (ahead test f g)
 ahead_gives P test f g h i n ts = choice P (test ts) (f n ts) (g n ts) (h n ts) (i n ts)
 
-over_gives : {A : Type 0} (P : A → Type 0) (k : Stop) (cs : List Class) → Gives P (over {A} k cs)
+over_gives : {A : Type 0} (P : A → Type 0) (k : Stop) (cs : List Class) → Gives P (over {A = A} k cs)
 over_gives P k cs n ts = choice P (starts cs ts) (stop k ts) (stop unexpected ts) tt tt
 
 inside_gives : {A : Type 0} (P : A → Type 0) (cs : List Class) (d : ℕ) (f : Reader A) → Gives P f → Gives P (inside cs d f)
@@ -100,7 +101,7 @@ matching_gives passes n (t ∷ ts) = go (passes t) refl
 
 -- ---- lists
 
-full_gives : {S : Type 0} (P : S → Type 0) (cs : List Class) → Gives P (r.full {S} cs)
+full_gives : {S : Type 0} (P : S → Type 0) (cs : List Class) → Gives P (r.full {S = S} cs)
 full_gives P cs = behind P (terminal (one c.Comma)) (λ comma. over too_many cs) (λ t. over_gives P too_many cs)
 
 listing_gives : {S : Type 0} (P : S → Type 0) (cs : List Class) (q : S → Reader S) → ((s : S) → P s → Gives P (q s)) → (more : ℕ) (s : S) → P s → Gives P (r.listing cs q more s)
@@ -147,14 +148,14 @@ simple_real _ = refl
 
 type_gives : Gives Real r.type_name
 unfolding r.type_name r.simple_type
-type_gives = either_gives Real _ _ r.decimal (behind Real (terminal _) (λ t. pure (kind_of t.class)) (λ t n ts. simple_real t.class)) decimal_gives
+type_gives = either_gives Real simple_types (terminal simple_types >>= λ t. pure (kind_of t.class)) r.decimal (behind Real (terminal simple_types) (λ t. pure (kind_of t.class)) (λ t n ts. simple_real t.class)) decimal_gives
 
 abbrev Declared : List ℕ × Kind → Type 0
 Declared x = Real x.1
 
 column_gives : Gives Declared r.column
 unfolding r.column
-column_gives = behind Declared (terminal _) _ (λ name. both Real Declared r.type_name _ type_gives (λ k h n ts. h))
+column_gives = behind Declared (terminal names) (λ name. r.type_name >>= λ k. pure (name.text, k)) (λ name. both Real Declared r.type_name (λ k. pure (name.text, k)) type_gives (λ k h n ts. h))
 
 abbrev Columns : List (List ℕ × Kind) → Type 0
 Columns cs = are_kinds (map (λ (x : List ℕ × Kind). x.1) cs) ≡ true
@@ -168,7 +169,7 @@ item_gives found h = both Declared Columns r.column (λ next. pure (found ++ nex
 
 columns_give : (more : ℕ) → Gives Columns (r.columns_of more)
 unfolding r.columns_of
-columns_give more = enclosed_gives Columns _ more r.column (item_gives [] refl) item_gives
+columns_give more = enclosed_gives Columns names more r.column (item_gives [] refl) item_gives
 
 or_none : (o : Option (List (List ℕ × Kind))) → Maybe Columns o → Columns (or_empty o)
 or_none None h = refl
@@ -180,9 +181,9 @@ Table t = declares_kinds t ≡ true
 create_gives : (more : ℕ) → Gives Table (r.create more)
 unfolding r.create
 create_gives more =
-    behind Table (terminal (one c.Create)) _ (λ create_. behind Table (terminal (one c.External)) _ (λ external. behind Table (terminal (one c.Table)) _ (λ table. behind Table (terminal _) _ (λ name.
+    behind Table (terminal (one c.Create)) _ (λ create_. behind Table (terminal (one c.External)) _ (λ external. behind Table (terminal (one c.Table)) _ (λ table. behind Table (terminal names) _ (λ name.
     both (Maybe Columns) Table (maybe (one c.Open) (r.columns_of more)) _ (maybe_gives Columns (one c.Open) (r.columns_of more) (columns_give more)) (λ columns h.
-    behind Table (terminal (one c.Stored)) _ (λ stored. behind Table (terminal (one c.As)) _ (λ as_. behind Table (terminal _) _ (λ form. behind Table (maybe (one c.With) r.header_row) _ (λ header.
+    behind Table (terminal (one c.Stored)) _ (λ stored. behind Table (terminal (one c.As)) _ (λ as_. behind Table (terminal forms) _ (λ form. behind Table (maybe (one c.With) r.header_row) _ (λ header.
     behind Table (terminal (one c.Location)) _ (λ location. behind Table (terminal (one c.Str)) _ (λ path. behind Table (maybe (one c.Options) (r.settings more)) _ (λ options n ts. or_none columns h))))))))))))
 
 abbrev Tables : List TableAst → Type 0
@@ -225,7 +226,9 @@ module _ (l : Limits) (d : ℕ) (below : Readers) (nested : Gives Selects below.
 
   named_gives : Gives From (r.table_name l d below)
   unfolding r.table_name
-  named_gives = behind From (charge l.tables 1 _ (terminal _)) _ (λ t. behind From (maybe _ r.called) _ (λ alias n ts. named_items t.text _ t.place))
+  named_gives =
+      behind From (charge l.tables 1 names (terminal names)) (λ t. maybe r.called_first r.called >>= λ alias. pure (Named t.text (alias_or alias t.text) t.place))
+      (λ t. behind From (maybe r.called_first r.called) (λ alias. pure (Named t.text (alias_or alias t.text) t.place)) (λ alias n ts. named_items t.text (alias_or alias t.text) t.place))
 
   from_gives : Gives From (r.from_of l d below)
   unfolding r.from_of
