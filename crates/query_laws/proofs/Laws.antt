@@ -16,9 +16,9 @@ use Rattle.range_laws.specs.Wholly.{IsWhollyPlanned}
 use Rattle.range_laws.proofs.Facts.{all_needs_ranged}
 use Rattle.range_laws.proofs.Wholly.{wholly_planned}
 use Rattle.binder_laws.proofs.Bounds.{bound_in_range}
-use Rattle.kinded_binding.specs.Scripts.{declared_kinds}
-use Rattle.kinded_binding.proofs.Bounds.{declared_kinded}
-use Rattle.kinded_binding.proofs.Spelled.{spelled}
+use Rattle.binder_kind_laws.specs.Scripts.{declared_kinds}
+use Rattle.binder_kind_laws.proofs.Bounds.{declared_kinded}
+use Rattle.binder_kind_laws.proofs.Spelled.{spelled}
 use Rattle.logical_plan.specs.Allowed.{Allowed}
 use Rattle.logical_plan.specs.Body.{all_faults, Tables}
 use Rattle.kind_laws.specs.Kinded.{is_well_kinded}

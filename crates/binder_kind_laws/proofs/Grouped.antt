@@ -1,8 +1,7 @@
 -- The rows of groups: keys, arguments and calls of a select are well-kinded, and give the kinds over which its items are bound.
 use Rattle.std.specs.Prelude.{slice_get, is_some}
-use Rattle.std.specs.List.{list_all}
-use Rattle.std.proofs.Common.{ℕ, zero, suc, ◌≡◌, ◌+◌, ◌<◌, ◌≤◌, refl, sym, ap, ◌∙◌, subst, cond, Bool, true, false, ◌&&◌, Option, Some, None, Ok, Err, List, [], ◌∷◌, ◌++◌, map, length, length-append, arith}
-use Rattle.std.proofs.lemmas.Bool.{and_parts, and_from}
+use Rattle.std.proofs.Common.{ℕ, zero, suc, ◌≡◌, ◌+◌, refl, sym, ap, ◌∙◌, subst, true, Option, Some, None, Ok, Err, List, [], ◌∷◌, ◌++◌, map, length, length-append, arith}
+use Rattle.std.proofs.lemmas.Bool.{and_from}
 use Rattle.std.proofs.lemmas.List.{append_assoc, length-map}
 use Rattle.dfx_value.specs.declared.kind.Kind.{Kind}
 use Rattle.dfx_value.specs.declared.kind.Kind.TheVariants as kind
@@ -29,13 +28,13 @@ use Rattle.logical_build.specs.Calls.{argument, of_column, numbered, arguments_o
 use Rattle.logical_build.specs.Groups as rows
 use Rattle.sql_binder.specs.Grouped.{is_number, key, keys, settled_expr, arguments}
 use Rattle.sql_binder.specs.Sources.{kinds as column_kinds}
-use Rattle.binder_laws.proofs.Holding.{Holds, after, unless, answered, Every}
-use Rattle.kinded_binding.proofs.Settled.{Real, HasKind, Typing, settled_kind}
-use Rattle.kinded_binding.proofs.Meanings.{RealColumns, means}
-use Rattle.kinded_binding.proofs.Groupings.{IsBound, group_kinds}
-use Rattle.kinded_binding.proofs.CallKinds.{of_argument, call_kind_of, Fitting, FitsArgument, FitsCall, fitting_kind}
-use Rattle.kinded_binding.proofs.Joins.{Is, is_kinded, Gives, gives_both, Bodied, project_bodied, first_behind}
-use Rattle.kinded_binding.proofs.Each.{Pairs, pairs_length, pairs_first, pairs_second, each_pairs}
+use Rattle.binder_laws.proofs.Holding.{Holds, unless, answered, Every}
+use Rattle.binder_kind_laws.proofs.Settled.{Real, HasKind, Typing, settled_kind}
+use Rattle.binder_kind_laws.proofs.Meanings.{RealColumns, means}
+use Rattle.binder_kind_laws.proofs.Groupings.{IsBound}
+use Rattle.binder_kind_laws.proofs.CallKinds.{of_argument, call_kind_of, FitsArgument, FitsCall, fitting_kind}
+use Rattle.binder_kind_laws.proofs.Joins.{Is, is_kinded, Gives, gives_both, Bodied, project_bodied, first_behind}
+use Rattle.binder_kind_laws.proofs.Each.{Pairs, pairs_first, pairs_second, each_pairs}
 
 -- ---- keys and arguments
 
@@ -194,8 +193,7 @@ module _ (columns : Columns) where
         let first = first_give all [] (rows.key_kinds keys) arg.all 0 (length keys) refl refl n in
         let calls = numbered_calls (map argument found) all (rows.key_kinds keys) arg.all (length keys) refl n arg.are (all_fit found f) in
         let input = plan.Project body (rows.exprs keys ++ args) in
-        let found_calls = numbered (length keys) (map argument found) in
-        (
+        let found_calls = numbered (length keys) (map argument found) in (
           kinded-Aggregate kss input (rows.first_columns (length keys)) found_calls
               ∙ and_from (is_well_kinded kss input) _ inner.0 (and_from (has_columns (kinds input) (rows.first_columns (length keys))) _
               (ap (λ (l : List Kind). has_columns l (rows.first_columns (length keys))) inner.1 ∙ first.0) (ap (λ (l : List Kind). calls_fit l found_calls) inner.1 ∙ calls.0)),

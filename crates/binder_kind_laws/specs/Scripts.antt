@@ -1,5 +1,5 @@
 -- Meaning: scripts and tables as the grammar has them: each select has an item, and each table's columns have names and kinds.
-use Rattle.std.specs.Prelude.{ℕ, Bool, true, ◌&&◌, ◌==◌, nat_lt, List, [], ◌∷◌, length, map}
+use Rattle.std.specs.Prelude.{Bool, true, ◌&&◌, ◌==◌, nat_lt, List, [], ◌∷◌, length, map}
 use Rattle.std.specs.List.{list_all}
 use Rattle.dfx_value.specs.Kinds.{are_kinds}
 use Rattle.dfx_value.specs.declared.kind.Kind.{Kind}

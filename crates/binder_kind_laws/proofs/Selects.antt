@@ -1,6 +1,6 @@
 -- A select over a well-kinded body gives a well-kinded one, of the kinds that are told with it.
 use Rattle.std.specs.Prelude.{nat_lt}
-use Rattle.std.proofs.Common.{ℕ, suc, ◌≡◌, ◌+◌, ◌<◌, ◌≤◌, refl, sym, ap, ◌∙◌, subst, cond, Bool, true, false, Option, Some, None, Ok, Err, List, [], ◌∷◌, ◌++◌, map, length, arith}
+use Rattle.std.proofs.Common.{ℕ, ◌≡◌, ◌<◌, sym, ap, ◌∙◌, cond, Bool, true, false, Option, Some, None, Ok, List, [], ◌∷◌, ◌++◌, map, length, arith}
 use Rattle.std.proofs.lemmas.Bool.{and_from, lt-ltb}
 use Rattle.std.proofs.lemmas.List.{length-map}
 use Rattle.dfx_value.specs.declared.kind.Kind.{Kind}
@@ -8,14 +8,12 @@ use Rattle.dfx_value.specs.declared.kind.Kind.TheVariants as kind
 use Rattle.scalar_exprs.specs.declared.expr.Expr.{Expr}
 use Rattle.logical_plan.specs.declared.plan.Logical.{Logical}
 use Rattle.logical_plan.specs.declared.plan.Logical.TheVariants as plan
-use Rattle.logical_plan.specs.Body.{kinds}
 use Rattle.logical_plan.proofs.KindSteps.{kinds-Distinct}
 use Rattle.kind_laws.specs.Kinded.{is_well_kinded}
 use Rattle.kind_laws.proofs.KindedSteps.{kinded-Distinct}
 use Rattle.sql_grammar.specs.declared.ast.ExprAst.{ExprAst}
 use Rattle.sql_grammar.specs.declared.ast.ItemAst.{ItemAst}
 use Rattle.sql_grammar.specs.declared.ast.ItemAst.TheVariants as item
-use Rattle.expr_binder.specs.declared.typed.Typed.{Typed}
 use Rattle.expr_binder.specs.Answer.{Answer, ◌>>=◌}
 use Rattle.expr_binder.specs.Calls.{Calls, calls_of, unless_found, with_call, with_calls}
 use Rattle.expr_binder.specs.Groups.{Groups, Over}
@@ -30,20 +28,20 @@ use Rattle.logical_build.specs.Outputs as outs
 use Rattle.sql_binder.specs.declared.clauses.Clauses.{Clauses}
 use Rattle.sql_binder.specs.declared.selected.Selected.{Selected}
 use Rattle.sql_binder.specs.declared.sources.Source.{Source}
-use Rattle.sql_binder.specs.Grouped.{keys, with_item, with_items, with_having, calls, is_grouped, arguments, having}
+use Rattle.sql_binder.specs.Grouped.{keys, with_item, with_items, calls, is_grouped, arguments, having}
 use Rattle.sql_binder.specs.Items.{outputs}
-use Rattle.sql_binder.specs.Selects.{Parts, projected, plain, over_keys, clauses, groups_body, grouped, selected}
+use Rattle.sql_binder.specs.Selects.{Parts, projected, plain, clauses, groups_body, grouped, selected}
 use Rattle.sql_binder.specs.Sources.{kinds as column_kinds}
 use Rattle.binder_laws.proofs.Holding.{Holds, after, weaker, Every, every_append}
 use Rattle.binder_laws.proofs.Found.{ItemFound, HavingFound, all_items_found, all_having_found}
-use Rattle.kinded_binding.proofs.Settled.{Real, HasKind, Typing, tested_truth}
-use Rattle.kinded_binding.proofs.Meanings.{RealColumns, means}
-use Rattle.kinded_binding.proofs.Groupings.{Keyed, group_kinds, means_over}
-use Rattle.kinded_binding.proofs.CallKinds.{call_kind_of, FitsCall}
-use Rattle.kinded_binding.proofs.Joins.{Gives, Bodied, project_bodied}
-use Rattle.kinded_binding.proofs.Outputs.{HasOutput, outputs_give, outputs_real, plain_wide, group_wide, ItemHas, ItemCalls, Outputs, outputs_have}
-use Rattle.kinded_binding.proofs.Each.{Pairs, pairs_length}
-use Rattle.kinded_binding.proofs.Grouped.{IsKeyOf, IsArgument, keys_are, arguments_are, keys_bound, keys_real, groups_bodied, KeptTruth, kept_bodied}
+use Rattle.binder_kind_laws.proofs.Settled.{Real, HasKind, Typing, tested_truth}
+use Rattle.binder_kind_laws.proofs.Meanings.{RealColumns, means}
+use Rattle.binder_kind_laws.proofs.Groupings.{Keyed, group_kinds, means_over}
+use Rattle.binder_kind_laws.proofs.CallKinds.{call_kind_of, FitsCall}
+use Rattle.binder_kind_laws.proofs.Joins.{Bodied, project_bodied}
+use Rattle.binder_kind_laws.proofs.Outputs.{HasOutput, outputs_give, outputs_real, plain_wide, group_wide, ItemHas, ItemCalls, Outputs, outputs_have}
+use Rattle.binder_kind_laws.proofs.Each.{Pairs, pairs_length}
+use Rattle.binder_kind_laws.proofs.Grouped.{IsKeyOf, IsArgument, keys_are, arguments_are, keys_bound, keys_real, groups_bodied, KeptTruth, kept_bodied}
 
 -- ---- what is good
 

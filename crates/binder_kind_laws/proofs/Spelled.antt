@@ -1,7 +1,7 @@
 -- What a text spells: each select has an item, and each column that a table declares has a kind that is one.
 use Rattle.std.specs.Prelude.{nat_le, nat_lt}
 use Rattle.std.specs.List.{list_all}
-use Rattle.std.proofs.Common.{ℕ, zero, suc, ◌≡◌, ◌+◌, ◌<◌, refl, sym, ap, ◌∙◌, subst, cond, Bool, true, false, ◌&&◌, Option, Some, None, Ok, Err, List, [], ◌∷◌, ◌++◌, map, length, length-append, arith}
+use Rattle.std.proofs.Common.{ℕ, zero, suc, ◌≡◌, refl, ◌∙◌, subst, cond, Bool, true, false, ◌&&◌, Option, Some, None, Ok, List, [], ◌∷◌, ◌++◌, map, length, length-append, arith}
 use Rattle.std.proofs.lemmas.Bool.{and_parts, and_from, lt-ltb, false≢true}
 use Rattle.dfx_value.specs.Kinds.{is_kind, are_kinds}
 use Rattle.dfx_value.specs.declared.kind.Kind.{Kind}
@@ -17,15 +17,14 @@ use Rattle.sql_grammar.specs.declared.ast.SelectAst.{SelectAst}
 use Rattle.sql_grammar.specs.declared.ast.TableAst.{TableAst}
 use Rattle.sql_grammar.specs.declared.ast.Script.{Script}
 use Rattle.sql_grammar.specs.Class.{Token, Tokens, among, starts}
-use Rattle.sql_grammar.specs.Phrase.{Limit, fits}
 use Rattle.sql_grammar.specs.Grammar.{Limits, limits, beyond, one, names, simple_types, forms}
 use Rattle.sql_grammar.specs.Trees.{is_within, small, or_zero, kind_of, or_empty, alias_or, joined, select_of}
-use Rattle.sql_grammar.specs.Reader.{Stop, Read, done, stop, unexpected, too_deep, too_many, Reader, and_then, ◌>>=◌, pure, matching, terminal, either, maybe, turns_within, turns, over, up_to, pay, charge, restore, apart_from, inside, ahead, at_end, only}
+use Rattle.sql_grammar.specs.Reader.{Stop, Read, done, stop, unexpected, too_deep, too_many, Reader, and_then, ◌>>=◌, pure, matching, terminal, either, maybe, turns_within, turns, over, up_to, charge, inside, ahead, at_end}
 use Rattle.sql_grammar.specs.Reading as r
 use Rattle.sql_grammar.specs.Reading.{Readers}
 use Rattle.sql_grammar.specs.Parsed.{tokens_of, read, answer, parsed}
-use Rattle.kinded_binding.specs.Scripts.{all_have, select_has_items, from_has_items, join_has_items, has_items, declares_kinds}
-use Rattle.kinded_binding.proofs.Items.{named_items, derived_items, join_items, select_items, one_more}
+use Rattle.binder_kind_laws.specs.Scripts.{all_have, select_has_items, from_has_items, join_has_items, has_items, declares_kinds}
+use Rattle.binder_kind_laws.proofs.Items.{named_items, derived_items, join_items, select_items, one_more}
 
 -- ---- what readers give
 

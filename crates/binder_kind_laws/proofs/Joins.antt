@@ -21,10 +21,10 @@ use Rattle.logical_plan.specs.declared.plan.Logical.{Logical}
 use Rattle.logical_plan.specs.declared.plan.Logical.TheVariants.{Project, Join}
 use Rattle.logical_plan.specs.Body.{kinds, kind_or_text, item_kinds}
 use Rattle.logical_plan.proofs.KindSteps.{kinds-Project, kinds-Join}
-use Rattle.kind_laws.specs.Kinded.{has_kind, is_truth, is_test, is_rest, are_comparable, keys_compare, is_well_kinded}
+use Rattle.kind_laws.specs.Kinded.{has_kind, is_truth, is_rest, are_comparable, keys_compare, is_well_kinded}
 use Rattle.kind_laws.proofs.KindedSteps.{kinded-Project, kinded-Join, fit-Column, fit-Binary}
 use Rattle.join_lowering.specs.declared.lower.Side.{Side}
-use Rattle.join_lowering.specs.Keys.{split_at, conjuncts, columns, is_left, is_right, uses_left, uses_right, oriented, equated, key_of, keys, others, and_also, conjoined, residual}
+use Rattle.join_lowering.specs.Keys.{split_at, conjuncts, columns, is_left, is_right, uses_left, uses_right, oriented, equated, key_of, keys, others, conjoined, residual}
 use Rattle.join_lowering.specs.Lowering.{renumbered, without_left, spread, node_column, column_of, plain_key, cons_both, plain_keys, columns_from, keys_from, left_exprs, right_exprs, extended, join_extended, on_appended, on_keys, where_keyed, lowered}
 use Rattle.join_lowering.proofs.Nodes.{columns-Column, conjuncts-Column, conjuncts-Const, conjuncts-Not, conjuncts-Neg, conjuncts-IsNull, conjuncts-Binary, conjuncts-Case, conjuncts-Coalesce, conjuncts-Cast, conjuncts-Abs, conjuncts-Length}
 use Rattle.range_laws.specs.Ranges.{are_below, rest_columns}
@@ -32,9 +32,9 @@ use Rattle.binder_laws.proofs.Holding.{Every, every_append}
 use Rattle.binder_laws.proofs.Readings.{Reads}
 use Rattle.binder_laws.proofs.Parts.{IsKey, parts_read, keys_are, residual_reads}
 use Rattle.binder_laws.proofs.Renumbered.{left_alone}
-use Rattle.kinded_binding.proofs.Settled.{only_if_is}
-use Rattle.kinded_binding.proofs.CallKinds.{behind}
-use Rattle.kinded_binding.proofs.Moved.{Kept, kind_kept, fit_kept, kind_alike}
+use Rattle.binder_kind_laws.proofs.Settled.{only_if_is}
+use Rattle.binder_kind_laws.proofs.CallKinds.{behind}
+use Rattle.binder_kind_laws.proofs.Moved.{Kept, kind_kept, fit_kept, kind_alike}
 
 -- over columns of these kinds an expression has this kind, and its constants fit
 abbrev pub Is : List Kind → Expr → Kind → Type 0
@@ -375,8 +375,8 @@ module _ (lk rk : List Kind) (w v : ℕ) (wide : w ≡ length lk) (high : v ≡ 
       let m = length-append l (j ∷ []) in
       let n = length-append r (k ∷ []) in
       let first : are_comparable (slice_get (l ++ j ∷ left_kinds more) a) (slice_get (r ++ k ∷ right_kinds more) b) ≡ true =
-          ap (λ o. are_comparable o (slice_get (r ++ k ∷ right_kinds more) b)) (first_behind l (left_kinds more) j a e ∙ ap (λ o. Some (kind_or_text o)) h.0.left.0)
-          ∙ ap (are_comparable (Some h.0.j)) (first_behind r (right_kinds more) k b f ∙ ap (λ o. Some (kind_or_text o)) h.0.right.0) ∙ h.0.class in
+      ap (λ o. are_comparable o (slice_get (r ++ k ∷ right_kinds more) b)) (first_behind l (left_kinds more) j a e ∙ ap (λ o. Some (kind_or_text o)) h.0.left.0)
+      ∙ ap (are_comparable (Some h.0.j)) (first_behind r (right_kinds more) k b f ∙ ap (λ o. Some (kind_or_text o)) h.0.right.0) ∙ h.0.class in
       and_from (are_comparable (slice_get (l ++ j ∷ left_kinds more) a) (slice_get (r ++ k ∷ right_kinds more) b)) _ first
       (ap (λ (x : List Kind). keys_compare x (r ++ k ∷ right_kinds more) (keys_from (a + 1) (b + 1) (length more))) (sym (append_assoc l (j ∷ []) (left_kinds more)))
       ∙ ap (λ (x : List Kind). keys_compare ((l ++ j ∷ []) ++ left_kinds more) x (keys_from (a + 1) (b + 1) (length more))) (sym (append_assoc r (k ∷ []) (right_kinds more)))

@@ -1,6 +1,6 @@
 -- The kind of an expression over other columns: where its columns have the same kinds there, under their new numbers, so has it.
 use Rattle.std.specs.Prelude.{slice_get}
-use Rattle.std.proofs.Common.{ℕ, ◌≡◌, refl, sym, ap, ◌∙◌, subst, Bool, true, ◌&&◌, Option, Some, None, List, [], ◌∷◌, ◌++◌, map}
+use Rattle.std.proofs.Common.{ℕ, ◌≡◌, refl, sym, ap, ◌∙◌, subst, Bool, ◌&&◌, Option, Some, List, [], ◌∷◌, ◌++◌, map}
 use Rattle.dfx_value.specs.declared.kind.Kind.{Kind}
 use Rattle.dfx_value.specs.declared.kind.Kind.TheVariants as kind
 use Rattle.dfx_value.specs.declared.op.Op.{Op}
@@ -8,15 +8,15 @@ use Rattle.scalar_exprs.specs.declared.expr.Expr.{Expr}
 use Rattle.scalar_exprs.specs.declared.expr.Expr.TheOpen.{Expr-F}
 use Rattle.scalar_exprs.specs.declared.expr.Expr.TheViews.{roll-Expr}
 use Rattle.scalar_exprs.specs.declared.expr.Expr.TheFolds.{map-Expr, ind-Expr}
-use Rattle.scalar_exprs.specs.declared.expr.Expr.TheVariants.{Column, Const, Not, Neg, IsNull, Binary, Case, Coalesce, Cast, Abs, Length, rolls-Column, rolls-Const, rolls-Not, rolls-Neg, rolls-IsNull, rolls-Binary, rolls-Case, rolls-Coalesce, rolls-Cast, rolls-Abs, rolls-Length}
+use Rattle.scalar_exprs.specs.declared.expr.Expr.TheVariants.{Not, Neg, IsNull, Binary, Case, Coalesce, Cast, Abs, Length, rolls-Column, rolls-Const, rolls-Not, rolls-Neg, rolls-IsNull, rolls-Binary, rolls-Case, rolls-Coalesce, rolls-Cast, rolls-Abs, rolls-Length}
 use Rattle.scalar_exprs.specs.Kinds.{kind_of, constants_fit, binary_kind, when_bool, when_number, length_kind, cast_kind, case_kind, coalesce_kind, arms_fit, all_fit}
 use Rattle.scalar_exprs.specs.Kinds as opt
 use Rattle.scalar_exprs.proofs.KindSteps.{kind_of-Column, kind_of-Const, kind_of-Not, kind_of-Neg, kind_of-IsNull, kind_of-Binary, kind_of-Case, kind_of-Coalesce, kind_of-Cast, kind_of-Abs, kind_of-Length}
-use Rattle.kind_laws.proofs.KindedSteps.{fit-Column, fit-Const, fit-Not, fit-Neg, fit-IsNull, fit-Binary, fit-Case, fit-Coalesce, fit-Cast, fit-Abs, fit-Length}
+use Rattle.kind_laws.proofs.KindedSteps.{fit-Column, fit-Not, fit-Neg, fit-IsNull, fit-Binary, fit-Case, fit-Coalesce, fit-Cast, fit-Abs, fit-Length}
 use Rattle.join_lowering.specs.Keys.{columns}
 use Rattle.join_lowering.specs.Lowering.{renumbered}
 use Rattle.join_lowering.specs.Words.{arm_columns, all_columns, renumbered_arms}
-use Rattle.join_lowering.proofs.Nodes.{columns-Column, columns-Const, columns-Not, columns-Neg, columns-IsNull, columns-Binary, columns-Case, columns-Coalesce, columns-Cast, columns-Abs, columns-Length, renumbered-Column, renumbered-Const, renumbered-Not, renumbered-Neg, renumbered-IsNull, renumbered-Binary, renumbered-Case, renumbered-Coalesce, renumbered-Cast, renumbered-Abs, renumbered-Length}
+use Rattle.join_lowering.proofs.Nodes.{columns-Column, columns-Not, columns-Neg, columns-IsNull, columns-Binary, columns-Case, columns-Coalesce, columns-Cast, columns-Abs, columns-Length, renumbered-Column, renumbered-Const, renumbered-Not, renumbered-Neg, renumbered-IsNull, renumbered-Binary, renumbered-Case, renumbered-Coalesce, renumbered-Cast, renumbered-Abs, renumbered-Length}
 use Rattle.binder_laws.proofs.Holding.{Every, every_split}
 
 abbrev pair_kinds : List Kind → List (Expr × Expr) → List (Option Kind × Option Kind)

@@ -24,10 +24,10 @@ use Rattle.expr_binder.specs.Answer.{Answer, ◌>>=◌, refuse, or_refuse}
 use Rattle.expr_binder.specs.Calls.{Calls, calls_of, calls_in, calls_of_all, calls_of_arm, calls_of_arms, calls_of_other}
 use Rattle.expr_binder.specs.Case.{chosen}
 use Rattle.expr_binder.specs.Groups.{Groups, Over}
-use Rattle.expr_binder.specs.Same.{same, same_nodes, all_same, function_rank, place_among}
+use Rattle.expr_binder.specs.Same.{same, same_nodes, function_rank, place_among}
 use Rattle.expr_binder.specs.Scopes.{Columns, column_of}
 use Rattle.expr_binder.specs.Typed.{settled, or_mismatch, unary, binary}
-use Rattle.expr_binder.specs.Meaning.{meaning, of_node, node_of, place_of, key_of, or_sense, call_of, call_column, aggregate, column, column_kind, meanings, arm_meaning, arms_meaning, other_meaning, single, applied, applied_to_one, call_meaning, case_meaning, unary_meaning, binary_meaning}
+use Rattle.expr_binder.specs.Meaning.{meaning, of_node, node_of, place_of, key_of, or_sense, call_of, call_column, aggregate, column, column_kind, meanings, arm_meaning, arms_meaning, other_meaning, single, applied, applied_to_one, call_meaning, unary_meaning, binary_meaning}
 use Rattle.expr_binder.proofs.CallSteps.{calls_of-is, calls-Number, calls-Str, calls-Null, calls-Truth, calls-Name, calls-Call, calls-CountAll, calls-Not, calls-Neg, calls-IsNull, calls-Binary, calls-Case, calls-Cast}
 use Rattle.expr_binder.proofs.MeaningSteps.{meaning_is, node-Number, node-Str, node-Null, node-Truth, node-Name, node-Call, node-CountAll, node-Not, node-Neg, node-IsNull, node-Binary, node-Case, node-Cast}
 use Rattle.sql_binder.specs.Sources.{kinds}
@@ -35,12 +35,12 @@ use Rattle.physical_plan.proofs.Everywhere.{both_true}
 use Rattle.binder_laws.proofs.Holding.{Holds, after, answered, whatever, where_some, weaker, Every, every_append, every_split}
 use Rattle.binder_laws.proofs.Selves.{nat_self, self_is, self_at, selves}
 use Rattle.binder_laws.proofs.Found.{place_bound, IsFound, HasCalls}
-use Rattle.kinded_binding.proofs.Settled.{Real, HasKind, Typing, settled_kind, const_kind, column_has, unary_has, binary_has}
-use Rattle.kinded_binding.proofs.Unified.{ArmTyping, coalesced_has, chosen_has}
-use Rattle.kinded_binding.proofs.Meanings.{RealColumns, number_has, abs_has, length_has, the_single, means}
-use Rattle.kinded_binding.proofs.Agreeing.{agreed, agree_sym, agrees}
-use Rattle.kinded_binding.proofs.Callless.{is_free}
-use Rattle.kinded_binding.proofs.CallKinds.{agg_real, call_kind_of, Fitting, FitsArgument, FitsCall, fitting_kind, argument_of, argument_of_all, call_kind_same, count_kind_same, FoundAt, found_at, behind, mapped, HasKey, key_there}
+use Rattle.binder_kind_laws.proofs.Settled.{Real, HasKind, Typing, settled_kind, const_kind, column_has, unary_has, binary_has}
+use Rattle.binder_kind_laws.proofs.Unified.{ArmTyping, coalesced_has, chosen_has}
+use Rattle.binder_kind_laws.proofs.Meanings.{RealColumns, number_has, abs_has, length_has, the_single, means}
+use Rattle.binder_kind_laws.proofs.Agreeing.{agreed, agree_sym, agrees}
+use Rattle.binder_kind_laws.proofs.Callless.{is_free}
+use Rattle.binder_kind_laws.proofs.CallKinds.{agg_real, call_kind_of, Fitting, FitsArgument, FitsCall, argument_of, argument_of_all, call_kind_same, count_kind_same, found_at, behind, mapped, key_there}
 
 -- over the columns a key is no refusal
 abbrev pub IsBound : Columns → ExprAst → Type 0

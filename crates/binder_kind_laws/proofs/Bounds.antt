@@ -1,7 +1,6 @@
 -- The query of a script is well-kinded over its tables.
-use Rattle.std.specs.Prelude.{nat_lt}
 use Rattle.std.specs.List.{list_all}
-use Rattle.std.proofs.Common.{ℕ, zero, suc, ◌≡◌, ◌+◌, ◌<◌, refl, sym, ap, ◌∙◌, subst, cond, Bool, true, false, ◌&&◌, ◌||◌, ◌==◌, Option, Some, None, Ok, Err, List, [], ◌∷◌, ◌++◌, map, length, arith}
+use Rattle.std.proofs.Common.{ℕ, ◌≡◌, ◌<◌, refl, sym, ap, ◌∙◌, subst, cond, Bool, true, false, ◌||◌, ◌==◌, Ok, Err, List, [], ◌∷◌, ◌++◌, map, length, arith}
 use Rattle.std.proofs.lemmas.Bool.{and_parts, and_from, eqb-true, eq-eqb, false≢true}
 use Rattle.std.proofs.lemmas.List.{append_assoc, append-nil, length-map}
 use Rattle.dfx_value.specs.Kinds.{is_kind, are_kinds}
@@ -13,7 +12,7 @@ use Rattle.sql_grammar.specs.declared.ast.Script.{Script}
 use Rattle.sql_grammar.specs.declared.ast.TableAst.{TableAst}
 use Rattle.sql_grammar.specs.declared.ast.SelectAst.{SelectAst}
 use Rattle.expr_binder.specs.declared.refusal.Why.TheVariants as why
-use Rattle.expr_binder.specs.Answer.{Answer, ◌>>=◌, refuse_if}
+use Rattle.expr_binder.specs.Answer.{Answer, ◌>>=◌}
 use Rattle.sql_tables.specs.declared.schema.Schema.{Schema}
 use Rattle.sql_tables.specs.declared.table.Table.{Table}
 use Rattle.sql_tables.specs.Tables.{is_empty, schema_of, has_wrong_columns, has_other_option, declares, has_twice, table, tables_after, tables}
@@ -22,13 +21,13 @@ use Rattle.sql_binder.specs.Bound.{single, query_of, bound}
 use Rattle.sql_binder.specs.Orders.{order, limit, offset}
 use Rattle.sql_binder.specs.Selects.{select, union_of}
 use Rattle.binder_laws.proofs.Holding.{Holds, after, unless, whatever, answered, weaker, Every, every_append}
-use Rattle.kinded_binding.specs.Scripts.{all_have, select_has_items, has_items, is_whole, are_whole, kinds_of, declared_schema, declared_kinds, declares_kinds}
-use Rattle.kinded_binding.proofs.Settled.{Real}
-use Rattle.kinded_binding.proofs.Each.{unless_so, Pairs}
-use Rattle.kinded_binding.proofs.Selects.{Selects}
-use Rattle.kinded_binding.proofs.Unions.{Selecting_, union_selects}
-use Rattle.kinded_binding.proofs.Spelled.{IsScript}
-use Rattle.kinded_binding.proofs.Froms.{GoodTable, selects_well}
+use Rattle.binder_kind_laws.specs.Scripts.{all_have, select_has_items, has_items, is_whole, are_whole, kinds_of, declared_schema, declared_kinds, declares_kinds}
+use Rattle.binder_kind_laws.proofs.Settled.{Real}
+use Rattle.binder_kind_laws.proofs.Each.{unless_so, Pairs}
+use Rattle.binder_kind_laws.proofs.Selects.{Selects}
+use Rattle.binder_kind_laws.proofs.Unions.{Selecting_, union_selects}
+use Rattle.binder_kind_laws.proofs.Spelled.{IsScript}
+use Rattle.binder_kind_laws.proofs.Froms.{GoodTable, selects_well}
 
 -- ---- tables
 
@@ -134,9 +133,10 @@ whole_tables [] [] h k = (refl, refl)
 whole_tables (t ∷ ts) (x ∷ xs) h k =
     let b = and_parts (declares_kinds t) (list_all declares_kinds ts) k in
     let more = whole_tables ts xs h.1 b.1 in
-    let n : length x.names ≡ length x.kinds = ap (λ (l : List (List ℕ)). length l) h.0.0 ∙ length-map t.columns _ ∙ sym (ap (λ (l : List Kind). length l) h.0.1 ∙ length-map t.columns _) in
-    (and_from (is_whole x) _ (and_from (length x.names == length x.kinds) (are_kinds x.kinds) (eq-eqb (length x.names) (length x.kinds) n) (ap are_kinds h.0.1 ∙ b.0)) more.0,
-    ap (λ l. l ∷ kinds_of xs) h.0.1 ∙ ap (λ ls. declared_kinds t ∷ ls) more.1)
+    let n : length x.names ≡ length x.kinds = ap (λ (l : List (List ℕ)). length l) h.0.0 ∙ length-map t.columns _ ∙ sym (ap (λ (l : List Kind). length l) h.0.1 ∙ length-map t.columns _) in (
+      and_from (is_whole x) _ (and_from (length x.names == length x.kinds) (are_kinds x.kinds) (eq-eqb (length x.names) (length x.kinds) n) (ap are_kinds h.0.1 ∙ b.0)) more.0,
+      ap (λ l. l ∷ kinds_of xs) h.0.1 ∙ ap (λ ls. declared_kinds t ∷ ls) more.1,
+    )
 whole_tables [] (x ∷ xs) h k = absurd h
 whole_tables (t ∷ ts) [] h k = absurd h
 

@@ -9,7 +9,7 @@ use Rattle.sql_grammar.specs.declared.ast.FromAst.TheOpen.{FromAst-F, JoinAst-F,
 use Rattle.sql_grammar.specs.declared.ast.FromAst.TheVariants.{Named, Derived, rolls-Named, rolls-Derived}
 use Rattle.sql_grammar.specs.declared.ast.FromAst.TheViews.{roll-JoinAst, roll-SelectAst}
 use Rattle.sql_grammar.specs.declared.ast.FromAst.TheFolds.{fold-roll-FromAst, fold-roll-JoinAst, fold-roll-SelectAst}
-use Rattle.kinded_binding.specs.Scripts.{all_have, from_layer, join_layer, select_layer, select_has_items, from_has_items, join_has_items}
+use Rattle.binder_kind_laws.specs.Scripts.{all_have, from_layer, join_layer, select_layer, select_has_items, from_has_items, join_has_items}
 
 pub named_items : (name alias : List ℕ) (place : ℕ) → from_has_items (Named name alias place) ≡ true
 unfolding from_has_items

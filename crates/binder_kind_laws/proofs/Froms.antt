@@ -1,8 +1,7 @@
 -- What FROM and selects give is well-kinded, over tables whose columns have names and kinds.
 use Rattle.std.specs.Prelude.{slice_get, nat_lt}
-use Rattle.std.specs.List.{list_all}
-use Rattle.std.proofs.Common.{ℕ, zero, suc, ◌≡◌, ◌+◌, ◌<◌, ◌≤◌, refl, sym, ap, ◌∙◌, subst, cond, Bool, true, false, ◌&&◌, Option, Some, None, Ok, List, [], ◌∷◌, ◌++◌, map, length, length-append, arith}
-use Rattle.std.proofs.lemmas.Bool.{and_parts, and_from, ltb-true, lt-ltb, eqb-true}
+use Rattle.std.proofs.Common.{ℕ, zero, suc, ◌≡◌, ◌+◌, ◌<◌, refl, sym, ap, ◌∙◌, subst, cond, Bool, true, false, ◌&&◌, Option, Some, None, Ok, List, [], ◌∷◌, ◌++◌, map, length, length-append, arith}
+use Rattle.std.proofs.lemmas.Bool.{and_parts, and_from, ltb-true, lt-ltb}
 use Rattle.std.proofs.lemmas.List.{length-map, map-append}
 use Rattle.dfx_value.specs.Kinds.{is_kind, are_kinds}
 use Rattle.dfx_value.specs.declared.kind.Kind.{Kind}
@@ -13,19 +12,18 @@ use Rattle.scalar_exprs.specs.Kinds.{kind_of}
 use Rattle.logical_plan.specs.declared.plan.Logical.{Logical}
 use Rattle.logical_plan.specs.declared.plan.Logical.TheVariants as plan
 use Rattle.logical_plan.proofs.KindSteps.{kinds-Scan}
-use Rattle.kind_laws.specs.Kinded.{same_kinds, is_table, is_well_kinded}
+use Rattle.kind_laws.specs.Kinded.{same_kinds, is_table}
 use Rattle.kind_laws.proofs.KindedSteps.{kinded-Scan}
 use Rattle.sql_grammar.specs.declared.ast.ExprAst.{ExprAst}
 use Rattle.sql_grammar.specs.declared.ast.FromAst.{FromAst}
 use Rattle.sql_grammar.specs.declared.ast.JoinAst.{JoinAst}
 use Rattle.sql_grammar.specs.declared.ast.SelectAst.{SelectAst}
 use Rattle.sql_grammar.specs.declared.ast.FromAst.TheOpen.{FromAst-F, JoinAst-F, SelectAst-F}
-use Rattle.sql_grammar.specs.declared.ast.FromAst.TheVariants.{Named, Derived, rolls-Named, rolls-Derived}
-use Rattle.sql_grammar.specs.declared.ast.FromAst.TheViews.{roll-FromAst, roll-JoinAst, roll-SelectAst, out-SelectAst, out-JoinAst, out-roll-JoinAst, out-roll-SelectAst}
+use Rattle.sql_grammar.specs.declared.ast.FromAst.TheVariants.{rolls-Named, rolls-Derived}
+use Rattle.sql_grammar.specs.declared.ast.FromAst.TheViews.{roll-FromAst, roll-JoinAst, roll-SelectAst, out-roll-JoinAst, out-roll-SelectAst}
 use Rattle.sql_grammar.specs.declared.ast.FromAst.TheFolds.{map-FromAst, map-JoinAst, map-SelectAst, ind-SelectAst}
 use Rattle.expr_binder.specs.declared.scope.Column.{Column}
 use Rattle.expr_binder.specs.declared.refusal.Why.TheVariants as why
-use Rattle.expr_binder.specs.declared.typed.Typed.{Typed}
 use Rattle.expr_binder.specs.Answer.{◌>>=◌, or_refuse}
 use Rattle.expr_binder.specs.Scopes.{Columns, is_text, any_is, is_under}
 use Rattle.expr_binder.specs.Typed.{tested}
@@ -38,20 +36,19 @@ use Rattle.sql_binder.specs.declared.selected.Selected.{Selected}
 use Rattle.sql_binder.specs.Sources.{kinds, scanned, number_from, number_of_table, names_at, kinds_at, table, derived, Reading, Joining, if_new, under_new_alias, condition, side, joined_body, joined_on, joined, all_joined, from, filtered}
 use Rattle.sql_binder.specs.Selects.{Parts, Selecting, union_of, selected, select, reading_of, joining_of}
 use Rattle.binder_laws.proofs.Trees.{select_is, joining_is, named_is, derived_is}
-use Rattle.binder_laws.proofs.Holding.{Holds, after, unless, where_some, weaker, Every, every_append}
+use Rattle.binder_laws.proofs.Holding.{Holds, after, unless, where_some, Every, every_append}
 use Rattle.binder_laws.proofs.Readings as reads
 use Rattle.binder_laws.proofs.Meanings as meanings
-use Rattle.binder_laws.proofs.Selves.{kind_self}
-use Rattle.kinded_binding.specs.Scripts.{all_have, select_has_items, from_has_items, join_has_items, kinds_of}
-use Rattle.kinded_binding.proofs.Items.{derived_items, join_items, select_items}
-use Rattle.kinded_binding.proofs.Settled.{Real, HasKind, Typing, tested_truth}
-use Rattle.kinded_binding.proofs.Meanings.{RealColumns, means}
-use Rattle.kinded_binding.proofs.CallKinds.{mapped}
-use Rattle.kinded_binding.proofs.Joins.{Bodied, Sided, lowered_bodied}
-use Rattle.kinded_binding.proofs.Each.{both_hold}
-use Rattle.kinded_binding.proofs.Grouped.{filter_bodied}
-use Rattle.kinded_binding.proofs.Selects.{Sourced, Selects, selected_selects}
-use Rattle.kinded_binding.proofs.Unions.{Selecting_, union_selects, same_self}
+use Rattle.binder_kind_laws.specs.Scripts.{all_have, select_has_items, from_has_items, join_has_items, kinds_of}
+use Rattle.binder_kind_laws.proofs.Items.{derived_items, join_items, select_items}
+use Rattle.binder_kind_laws.proofs.Settled.{Real, HasKind, Typing, tested_truth}
+use Rattle.binder_kind_laws.proofs.Meanings.{RealColumns, means}
+use Rattle.binder_kind_laws.proofs.CallKinds.{mapped}
+use Rattle.binder_kind_laws.proofs.Joins.{Bodied, Sided, lowered_bodied}
+use Rattle.binder_kind_laws.proofs.Each.{both_hold}
+use Rattle.binder_kind_laws.proofs.Grouped.{filter_bodied}
+use Rattle.binder_kind_laws.proofs.Selects.{Sourced, Selects, selected_selects}
+use Rattle.binder_kind_laws.proofs.Unions.{Selecting_, union_selects, same_self}
 
 -- ---- columns under an alias
 

@@ -1,7 +1,6 @@
 -- The columns that the items of a select give: each has its kind, and there is one for each item at least.
 use Rattle.std.specs.Prelude.{nat_lt, not, slice_get}
-use Rattle.std.proofs.Common.{ℕ, suc, ◌≡◌, ◌+◌, ◌<◌, ◌≤◌, refl, sym, ap, ◌∙◌, subst, cond, Bool, true, false, ◌||◌, Option, Some, None, Ok, List, [], ◌∷◌, ◌++◌, map, length, length-append, arith}
-use Rattle.std.specs.List.{list_all}
+use Rattle.std.proofs.Common.{ℕ, suc, ◌≡◌, ◌+◌, ◌<◌, ◌≤◌, refl, sym, ap, ◌∙◌, subst, cond, Bool, true, false, ◌||◌, Option, Some, None, Ok, List, [], ◌∷◌, ◌++◌, length, length-append, arith}
 use Rattle.std.proofs.lemmas.Bool.{ltb-true, and_parts, and_from, false≢true}
 use Rattle.dfx_value.specs.declared.kind.Kind.{Kind}
 use Rattle.scalar_exprs.specs.declared.expr.Expr.TheVariants as expr
@@ -12,8 +11,6 @@ use Rattle.sql_grammar.specs.declared.ast.ItemAst.{ItemAst}
 use Rattle.sql_grammar.specs.declared.ast.ItemAst.TheVariants as item
 use Rattle.expr_binder.specs.declared.refusal.Why.TheVariants as why
 use Rattle.expr_binder.specs.declared.scope.Column.{Column}
-use Rattle.expr_binder.specs.declared.typed.Typed.{Typed}
-use Rattle.expr_binder.specs.Answer.{◌>>=◌}
 use Rattle.expr_binder.specs.Groups.{Groups, Over}
 use Rattle.expr_binder.specs.Meaning.{meaning}
 use Rattle.expr_binder.specs.Scopes.{Columns, is_unknown, is_under, any_is, numbers_from, with_if}
@@ -26,11 +23,11 @@ use Rattle.sql_binder.specs.Sources.{kinds}
 use Rattle.range_laws.specs.Ranges.{are_below}
 use Rattle.binder_laws.proofs.Holding.{Holds, after, unless, weaker, Every, every_append, AreSo, each_holds}
 use Rattle.binder_laws.proofs.Meanings.{numbers_below}
-use Rattle.kinded_binding.proofs.Settled.{Real, HasKind, Typing, settled_kind, column_has}
-use Rattle.kinded_binding.proofs.Meanings.{RealColumns, column_there}
-use Rattle.kinded_binding.proofs.Groupings.{Keyed, group_kinds, key_column}
-use Rattle.kinded_binding.proofs.Joins.{Gives, is_kinded}
-use Rattle.kinded_binding.proofs.Each.{unless_so}
+use Rattle.binder_kind_laws.proofs.Settled.{Real, HasKind, Typing, settled_kind, column_has}
+use Rattle.binder_kind_laws.proofs.Meanings.{RealColumns, column_there}
+use Rattle.binder_kind_laws.proofs.Groupings.{Keyed, group_kinds, key_column}
+use Rattle.binder_kind_laws.proofs.Joins.{Gives, is_kinded}
+use Rattle.binder_kind_laws.proofs.Each.{unless_so}
 
 -- over columns of these kinds the expression is of the kind that is told
 abbrev pub HasOutput : List Kind → Output → Type 0

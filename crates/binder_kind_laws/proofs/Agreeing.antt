@@ -1,6 +1,6 @@
 -- Equal expressions mean the same over columns, but for the places of refusals.
 use Rattle.std.specs.Prelude.{nat_eq}
-use Rattle.std.proofs.Common.{ℕ, ◌≡◌, refl, sym, ap, ◌∙◌, subst, Bool, true, false, ◌&&◌, Option, Some, None, Ok, Err, List, [], ◌∷◌, ◌++◌, map}
+use Rattle.std.proofs.Common.{ℕ, ◌≡◌, refl, sym, ap, ◌∙◌, subst, Bool, true, false, ◌&&◌, Option, Some, None, Ok, Err, List, [], ◌∷◌, map}
 use Rattle.std.proofs.lemmas.Bool.{eqb-true, and_parts, false≢true}
 use Rattle.dfx_value.specs.declared.kind.Kind.{Kind}
 use Rattle.dfx_value.specs.declared.kind.Kind.TheVariants as kind
@@ -29,10 +29,10 @@ use Rattle.expr_binder.specs.Answer.{Answer, ◌>>=◌, or_refuse, refuse_if}
 use Rattle.expr_binder.specs.Case.{tests, results, arm_as, chosen}
 use Rattle.expr_binder.specs.Groups.{Over}
 use Rattle.expr_binder.specs.Literals.{literal}
-use Rattle.expr_binder.specs.Same.{same_column, same_truth, function_rank, op_rank, Is, all_same, arms_same, other_same, same_layer, same_node, same_expr, same, same_nodes}
+use Rattle.expr_binder.specs.Same.{same_column, same_truth, function_rank, op_rank, Is, all_same, arms_same, same_layer, same_node, same_expr, same, same_nodes}
 use Rattle.expr_binder.specs.Scopes.{Columns, is_text, is_named, is_unknown, numbers, the_one, column_of}
 use Rattle.expr_binder.specs.Typed.{Kinded, settled, or_mismatch, of_kind, unary, given, kind_or, alone, mismatch, operator_kind, operated, binary, common, as_kind, coalesced}
-use Rattle.expr_binder.specs.Meaning.{Sense, Part, meaning, of_node, of_layer, node_sense, expr_sense, node_of, place_of, number, senses, arm_of, other_of, all, operands_over, single, applied, applied_to_one, called}
+use Rattle.expr_binder.specs.Meaning.{Sense, Part, meaning, of_node, of_layer, node_sense, expr_sense, node_of, place_of, number, senses, arm_of, all, single, applied, applied_to_one, called}
 use Rattle.expr_binder.proofs.MeaningSteps.{meaning_is}
 use Rattle.binder_laws.proofs.Meanings.{over_none}
 

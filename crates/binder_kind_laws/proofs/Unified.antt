@@ -1,8 +1,7 @@
 -- One kind for several expressions: what each is as that kind, COALESCE and CASE.
 use Rattle.std.specs.Prelude.{option_and_then, max}
-use Rattle.std.proofs.Common.{ℕ, ◌≡◌, refl, sym, ap, ◌∙◌, subst, cond, Bool, true, false, ◌&&◌, ◌⊎◌, inl, inr, Option, Some, None, Ok, Err, List, [], ◌∷◌, ◌++◌, map}
-use Rattle.std.proofs.lemmas.Bool.{and_parts, and_from, false≢true}
-use Rattle.dfx_value.specs.Kinds.{is_kind}
+use Rattle.std.proofs.Common.{ℕ, ◌≡◌, refl, sym, ap, ◌∙◌, subst, cond, Bool, true, false, ◌&&◌, ◌⊎◌, inl, inr, Option, Some, None, Ok, Err, List, [], ◌∷◌, map}
+use Rattle.std.proofs.lemmas.Bool.{and_from, false≢true}
 use Rattle.dfx_value.specs.declared.kind.Kind.{Kind}
 use Rattle.dfx_value.specs.declared.kind.Kind.TheVariants as kind
 use Rattle.dfx_value.specs.declared.value.Value.TheVariants as value
@@ -18,12 +17,12 @@ use Rattle.expr_binder.specs.declared.typed.Typed.TheVariants as typed
 use Rattle.expr_binder.specs.declared.refusal.Why.TheVariants as why
 use Rattle.expr_binder.specs.Answer.{Answer, ◌>>=◌}
 use Rattle.expr_binder.specs.Case.{tests, results, arm_as, chosen}
-use Rattle.expr_binder.specs.Typed.{settled, or_mismatch, is_number, widened, unified, joined, common_after, or_text, common, as_kind, coalesced}
+use Rattle.expr_binder.specs.Typed.{settled, or_mismatch, is_number, widened, unified, common_after, or_text, common, as_kind, coalesced}
 use Rattle.kind_laws.proofs.Bodies.{same_is}
 use Rattle.kind_laws.proofs.KindedSteps.{fit-Case, fit-Coalesce}
-use Rattle.binder_laws.proofs.Holding.{Holds, after, unless, where_some, Every, every_split}
+use Rattle.binder_laws.proofs.Holding.{Holds, after, where_some, Every}
 use Rattle.binder_laws.proofs.Selves.{kind_self}
-use Rattle.kinded_binding.proofs.Settled.{Real, HasKind, Typing, widened_real, const_kind, settled_kind, made_kind, cast_makes}
+use Rattle.binder_kind_laws.proofs.Settled.{Real, HasKind, Typing, widened_real, const_kind, settled_kind, made_kind, cast_makes}
 
 -- ---- a kind that becomes another one
 
@@ -198,8 +197,7 @@ module _ (ks : List Kind) where
       let result = as_kind_has u arm.result r h.0.1 b.0 in
       let more = arms_have u arms other r h.1 t.1 b.1 in
       let rest = case_kind (pair_kinds (map (arm_as u) arms)) u in
-      let given = kind_of ks (as_kind u arm.result) in
-      (
+      let given = kind_of ks (as_kind u arm.result) in (
         ap (λ (o : Option Kind). opt.◌>>=◌ o (λ test. opt.◌>>=◌ (when_bool test) (λ _. opt.◌>>=◌ given (λ j. opt.◌>>=◌ (only_if (same j u) u) (λ _. rest))))) test.kind
             ∙ ap (λ (o : Option Kind). opt.◌>>=◌ o (λ j. opt.◌>>=◌ (only_if (same j u) u) (λ _. rest))) result.kind ∙ step_kind u rest ∙ more.0,
         (and_from (constants_fit (settled arm.test).0 && constants_fit (as_kind u arm.result)) _ (and_from (constants_fit (settled arm.test).0) (constants_fit (as_kind u arm.result)) test.fits result.fits) more.1.0, more.1.1),

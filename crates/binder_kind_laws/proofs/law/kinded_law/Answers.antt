@@ -1,7 +1,7 @@
-use Rattle.kinded_binding.proofs.Meanings.{expression_kinded}
-use Rattle.kinded_binding.proofs.Bounds.{bound_kinded, declared_kinded}
-use Rattle.kinded_binding.proofs.Spelled.{spelled}
-use Rattle.kinded_binding.proofs.law.kinded_law.Goals as goal
+use Rattle.binder_kind_laws.proofs.Meanings.{expression_kinded}
+use Rattle.binder_kind_laws.proofs.Bounds.{bound_kinded, declared_kinded}
+use Rattle.binder_kind_laws.proofs.Spelled.{spelled}
+use Rattle.binder_kind_laws.proofs.law.kinded_law.Goals as goal
 
 pub returns : goal.returns
 returns c = record {

@@ -1,6 +1,6 @@
 -- The meaning of an expression over columns has the kind that is told with it.
 use Rattle.std.specs.Prelude.{nat_lt, slice_get, option_and_then}
-use Rattle.std.proofs.Common.{ℕ, zero, suc, ◌≡◌, ◌+◌, ◌<◌, refl, sym, ap, ◌∙◌, subst, cond, Bool, true, false, Option, Some, None, Ok, List, [], ◌∷◌, map, length, arith}
+use Rattle.std.proofs.Common.{ℕ, zero, suc, ◌≡◌, ◌<◌, refl, sym, ap, ◌∙◌, subst, cond, Bool, true, false, Option, Some, None, Ok, List, [], ◌∷◌, map, length, arith}
 use Rattle.std.proofs.lemmas.Bool.{ltb-true, and_parts}
 use Rattle.dfx_value.specs.Kinds.{is_kind, are_kinds, is_of}
 use Rattle.dfx_value.specs.Parse.{parsed}
@@ -30,7 +30,7 @@ use Rattle.expr_binder.specs.declared.typed.Unary.TheVariants as operator
 use Rattle.expr_binder.specs.declared.refusal.Why.TheVariants as why
 use Rattle.expr_binder.specs.Answer.{◌>>=◌, or_refuse}
 use Rattle.expr_binder.specs.Case.{chosen}
-use Rattle.expr_binder.specs.Literals.{has_point, decimal_kind, with_kind, kind_where, decimal, or_decimal, literal}
+use Rattle.expr_binder.specs.Literals.{has_point, decimal_kind, with_kind, decimal, or_decimal, literal}
 use Rattle.expr_binder.specs.Scopes.{Columns, column_of}
 use Rattle.expr_binder.specs.Typed.{settled, of_kind, unary, binary}
 use Rattle.expr_binder.specs.Meaning.{meaning, of_node, place_of, meanings, arm_meaning, arms_meaning, other_meaning, single, applied, applied_to_one, call_meaning, case_meaning, column, kind_of_column, number, unary_meaning, binary_meaning}
@@ -39,8 +39,8 @@ use Rattle.sql_binder.specs.Sources.{kinds}
 use Rattle.range_laws.specs.Ranges.{are_below}
 use Rattle.binder_laws.proofs.Holding.{Holds, after, answered, where_some, Every}
 use Rattle.binder_laws.proofs.Meanings.{named_below, over_none}
-use Rattle.kinded_binding.proofs.Settled.{Real, HasKind, Typing, settled_kind, const_kind, column_has, number_real, length_real, of_kind_has, unary_has, binary_has}
-use Rattle.kinded_binding.proofs.Unified.{ArmTyping, coalesced_has, chosen_has}
+use Rattle.binder_kind_laws.proofs.Settled.{Real, HasKind, Typing, settled_kind, const_kind, column_has, number_real, length_real, of_kind_has, unary_has, binary_has}
+use Rattle.binder_kind_laws.proofs.Unified.{ArmTyping, coalesced_has, chosen_has}
 
 -- ---- literals
 

@@ -17,7 +17,7 @@ ghost use Rattle.sql_tables.specs.declared.table.Table.{Table as ATable};
 ghost use Rattle.sql_tables.specs.Tables.{tables};
 ghost use Rattle.sql_binder.specs.Sources.{kinds};
 ghost use Rattle.sql_binder.specs.Bound.{bound};
-ghost use Rattle.kinded_binding.specs.Scripts.{has_items, are_whole, kinds_of, declared_schema, declared_kinds};
+ghost use Rattle.binder_kind_laws.specs.Scripts.{has_items, are_whole, kinds_of, declared_schema, declared_kinds};
 
 /// What an expression means over columns has the kind that is told with it, and its constants fit (`expressions`).
 ///

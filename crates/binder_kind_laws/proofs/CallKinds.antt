@@ -1,7 +1,7 @@
 -- The kinds of aggregate calls: that of the call which is found is that of the one which is looked for.
 use Rattle.std.proofs.Math.Nat.{min-le_left}
-use Rattle.std.specs.Prelude.{nat_eq, nat_le, min, slice_get}
-use Rattle.std.proofs.Common.{ℕ, zero, suc, ◌≡◌, ◌+◌, ◌<◌, ◌≤◌, refl, sym, ap, ◌∙◌, subst, cond, Bool, true, false, ◌&&◌, Option, Some, None, Ok, Err, List, [], ◌∷◌, ◌++◌, map, length, arith}
+use Rattle.std.specs.Prelude.{nat_eq, slice_get}
+use Rattle.std.proofs.Common.{ℕ, zero, suc, ◌≡◌, ◌+◌, ◌<◌, ◌≤◌, refl, sym, ap, ◌∙◌, subst, cond, Bool, true, false, Option, Some, None, Ok, Err, List, [], ◌∷◌, ◌++◌, map, length, arith}
 use Rattle.std.proofs.lemmas.Bool.{and_parts, false≢true}
 use Rattle.dfx_value.specs.declared.kind.Kind.{Kind}
 use Rattle.dfx_value.specs.declared.kind.Kind.TheVariants as kind
@@ -10,11 +10,10 @@ use Rattle.dfx_value.specs.declared.op.AggCall.TheVariants as agg_call
 use Rattle.scalar_exprs.specs.Kinds.{agg_kind, total_kind, mean_kind, mean_scale, widest}
 use Rattle.logical_plan.specs.Body.{kind_or_text}
 use Rattle.sql_grammar.specs.declared.ast.FnAst.{FnAst}
-use Rattle.sql_grammar.specs.declared.ast.FnAst.TheVariants as fn
-use Rattle.sql_grammar.specs.declared.ast.ExprAst.{ExprAst, out-ExprAst}
+use Rattle.sql_grammar.specs.declared.ast.ExprAst.{ExprAst}
 use Rattle.sql_grammar.specs.declared.ast.NodeAst.{NodeAst, roll-NodeAst}
-use Rattle.sql_grammar.specs.declared.ast.NodeAst.TheOpen.{NodeAst-F, ExprAst-F}
-use Rattle.sql_grammar.specs.declared.ast.NodeAst.TheViews.{out-NodeAst, out-roll-NodeAst, roll-out-NodeAst}
+use Rattle.sql_grammar.specs.declared.ast.NodeAst.TheOpen.{NodeAst-F}
+use Rattle.sql_grammar.specs.declared.ast.NodeAst.TheViews.{out-NodeAst, out-roll-NodeAst}
 use Rattle.sql_grammar.specs.declared.ast.NodeAst.TheVariants as node
 use Rattle.expr_binder.specs.declared.typed.Typed.{Typed}
 use Rattle.expr_binder.specs.Answer.{Answer}
@@ -24,8 +23,8 @@ use Rattle.expr_binder.specs.Typed.{settled}
 use Rattle.expr_binder.specs.Meaning.{meaning, node_of, call_of}
 use Rattle.logical_build.specs.Calls.{argument}
 use Rattle.binder_laws.proofs.Holding.{Every}
-use Rattle.kinded_binding.proofs.Settled.{Real, scale_at_most, widest_real}
-use Rattle.kinded_binding.proofs.Agreeing.{Agree, agreed, agree_sym, agrees, same_at, same_node_of, function_is}
+use Rattle.binder_kind_laws.proofs.Settled.{Real, scale_at_most, widest_real}
+use Rattle.binder_kind_laws.proofs.Agreeing.{agreed, agrees, same_at, same_node_of, function_is}
 
 -- ---- the kind of an aggregate is one
 

@@ -1,8 +1,8 @@
 -- Expressions that have a kind: constants, lone NULLs that are given one, operators, and casts to one kind for several.
 use Rattle.std.proofs.Math.Nat.{max-le}
-use Rattle.std.specs.Prelude.{max, nat_le, option_and_then, slice_get}
-use Rattle.std.proofs.Common.{ℕ, ◌≡◌, ◌+◌, ◌≤◌, refl, sym, ap, ◌∙◌, subst, cond, Bool, true, false, ◌&&◌, ◌⊎◌, inl, inr, Option, Some, None, Ok, List, [], ◌∷◌, ◌++◌, map, arith}
-use Rattle.std.proofs.lemmas.Bool.{leb-true, le-leb, and_parts, and_from, false≢true}
+use Rattle.std.specs.Prelude.{max, nat_le, slice_get}
+use Rattle.std.proofs.Common.{ℕ, ◌≡◌, ◌+◌, ◌≤◌, refl, ap, ◌∙◌, subst, Bool, true, false, ◌&&◌, Option, Some, Ok, List, arith}
+use Rattle.std.proofs.lemmas.Bool.{leb-true, le-leb, and_parts, and_from}
 use Rattle.dfx_value.specs.Kinds.{is_kind, is_of}
 use Rattle.dfx_value.specs.declared.kind.Kind.{Kind}
 use Rattle.dfx_value.specs.declared.kind.Kind.TheVariants as kind
@@ -21,10 +21,9 @@ use Rattle.expr_binder.specs.declared.typed.Typed.TheVariants as typed
 use Rattle.expr_binder.specs.declared.typed.Unary.{Unary}
 use Rattle.expr_binder.specs.declared.typed.Unary.TheVariants as operator
 use Rattle.expr_binder.specs.declared.refusal.Why.TheVariants as why
-use Rattle.expr_binder.specs.Answer.{◌>>=◌}
-use Rattle.expr_binder.specs.Typed.{Kinded, given, settled, kind_or, or_mismatch, of_kind, unary, alone, mismatch, is_number, operator_kind, operated, binary, widened, unified, joined, common_after, or_text, common, as_kind, tested}
+use Rattle.expr_binder.specs.Typed.{Kinded, given, settled, kind_or, or_mismatch, of_kind, unary, alone, mismatch, operator_kind, operated, binary, widened, tested}
 use Rattle.kind_laws.proofs.KindedSteps.{fit-Column, fit-Const, fit-Not, fit-Neg, fit-IsNull, fit-Binary, fit-Cast}
-use Rattle.binder_laws.proofs.Holding.{Holds, after, where_some, Every}
+use Rattle.binder_laws.proofs.Holding.{Holds, after, where_some}
 
 abbrev pub Real : Kind → Type 0
 Real k = is_kind k ≡ true

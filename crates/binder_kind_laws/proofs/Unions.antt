@@ -1,7 +1,6 @@
 -- Selects united: each becomes one of the kinds that all of them have in common.
-use Rattle.std.specs.Prelude.{option_and_then, nat_lt, slice_get}
-use Rattle.std.specs.List.{list_all}
-use Rattle.std.proofs.Common.{ℕ, zero, suc, ◌≡◌, ◌+◌, ◌<◌, refl, sym, ap, ◌∙◌, subst, Bool, true, false, ◌&&◌, ◌⊎◌, inl, inr, Option, Some, None, Ok, Err, List, [], ◌∷◌, ◌++◌, map, length, length-append, arith}
+use Rattle.std.specs.Prelude.{option_and_then, slice_get}
+use Rattle.std.proofs.Common.{ℕ, suc, ◌≡◌, refl, sym, ap, ◌∙◌, subst, Bool, true, false, inl, Option, Some, None, Ok, List, [], ◌∷◌, ◌++◌, map, length, length-append, arith}
 use Rattle.std.proofs.lemmas.Bool.{and_parts, and_from}
 use Rattle.std.proofs.lemmas.List.{append_assoc, append-nil}
 use Rattle.dfx_value.specs.declared.kind.Kind.{Kind}
@@ -11,13 +10,12 @@ use Rattle.logical_plan.specs.declared.plan.Logical.{Logical}
 use Rattle.logical_plan.specs.declared.plan.Logical.TheVariants as plan
 use Rattle.logical_plan.specs.Body.{kinds, kind_or_text, item_kinds}
 use Rattle.logical_plan.proofs.KindSteps.{kinds-UnionAll}
-use Rattle.kind_laws.specs.Kinded.{same_kinds, has_kind, all_as, are_united, is_well_kinded}
+use Rattle.kind_laws.specs.Kinded.{same_kinds, has_kind, all_as, is_well_kinded}
 use Rattle.kind_laws.proofs.KindedSteps.{marked, kinded-UnionAll}
 use Rattle.kind_laws.proofs.Bodies.{same_is}
 use Rattle.expr_binder.specs.declared.refusal.Why.TheVariants as why
 use Rattle.expr_binder.specs.declared.typed.Typed.TheVariants as typed
-use Rattle.expr_binder.specs.Answer.{Answer, ◌>>=◌}
-use Rattle.expr_binder.specs.Typed.{unified, as_kind}
+use Rattle.expr_binder.specs.Typed.{unified}
 use Rattle.logical_build.specs.Unions.{unified_after, all_unified, are_same, cast, casts, cast_if, with_kinds}
 use Rattle.sql_binder.specs.declared.selected.Selected.{Selected}
 use Rattle.sql_binder.specs.Each.{each}
@@ -25,10 +23,10 @@ use Rattle.sql_binder.specs.Unions.{Placed, unified_with, common_kinds, bodies, 
 use Rattle.sql_binder.specs.Selects.{Selecting, placed, union_of}
 use Rattle.binder_laws.proofs.Holding.{Holds, after, where_some, weaker, Every, AreSo, each_holds}
 use Rattle.binder_laws.proofs.Selves.{kind_self}
-use Rattle.kinded_binding.proofs.Settled.{Real, HasKind, Typing, column_has}
-use Rattle.kinded_binding.proofs.Unified.{Becomes, becomes_again, Unifies, unified_are, as_kind_has}
-use Rattle.kinded_binding.proofs.Joins.{Gives, is_kinded, Bodied, project_bodied, first_behind}
-use Rattle.kinded_binding.proofs.Selects.{Selects}
+use Rattle.binder_kind_laws.proofs.Settled.{Real, column_has}
+use Rattle.binder_kind_laws.proofs.Unified.{Becomes, becomes_again, unified_are, as_kind_has}
+use Rattle.binder_kind_laws.proofs.Joins.{Gives, is_kinded, Bodied, project_bodied, first_behind}
+use Rattle.binder_kind_laws.proofs.Selects.{Selects}
 
 -- ---- kinds that become others, one by one
 
@@ -162,8 +160,10 @@ United kss n u = Bodied kss u.1 u.0 × (Every Real u.0 × (length u.0 ≡ n))
 body_united : (kss : List (List Kind)) (first : Selected) (ps : List Placed) → Selects kss first → Every (PlacedGood kss) ps → Holds (United kss (length first.kinds)) (union_body first.kinds first.body ps)
 body_united kss first ps h g =
     after (Common first.kinds ps) (United kss (length first.kinds)) (common_kinds first.kinds ps) (λ us. Ok (us, plan.UnionAll (with_kinds us first.kinds first.body ∷ bodies us ps))) (all_common first.kinds ps h.real (reals_of kss ps g))
-    (λ us c. (union_bodied kss us (with_kinds us first.kinds first.body) (bodies us ps) (cast_bodied kss us first.kinds first.body h.body c.first h.real c.real) (bodies_as kss us ps g c.each c.real),
-    (c.real, become_length first.kinds us c.first)))
+    (λ us c. (
+      union_bodied kss us (with_kinds us first.kinds first.body) (bodies us ps) (cast_bodied kss us first.kinds first.body h.body c.first h.real c.real) (bodies_as kss us ps g c.each c.real),
+      (c.real, become_length first.kinds us c.first),
+    ))
 
 with_selects : (kss : List (List Kind)) (first : Selected) (ps : List Placed) → Selects kss first → Every (PlacedGood kss) ps → Holds (Selects kss) (united_with first ps)
 with_selects kss first [] h g = h

@@ -1,5 +1,5 @@
 -- An expression that means something over columns has no aggregate calls.
-use Rattle.std.proofs.Common.{ℕ, ◌≡◌, refl, sym, ap, ◌∙◌, subst, Bool, true, false, Option, Some, None, Ok, Err, List, [], ◌∷◌, ◌++◌, map}
+use Rattle.std.proofs.Common.{ℕ, ◌≡◌, refl, sym, ap, ◌∙◌, subst, Option, Some, None, Ok, List, [], ◌∷◌, ◌++◌, map}
 use Rattle.sql_grammar.specs.declared.ast.FnAst.{FnAst}
 use Rattle.sql_grammar.specs.declared.ast.FnAst.TheVariants as fn
 use Rattle.sql_grammar.specs.declared.ast.ExprAst.{ExprAst, roll-ExprAst}
@@ -12,13 +12,13 @@ use Rattle.expr_binder.specs.declared.typed.Typed.{Typed}
 use Rattle.expr_binder.specs.declared.typed.Unary.TheVariants as operator
 use Rattle.expr_binder.specs.declared.refusal.Why.TheVariants as why
 use Rattle.expr_binder.specs.Answer.{Answer, ◌>>=◌, or_refuse}
-use Rattle.expr_binder.specs.Calls.{Calls, is_aggregate, calls_of, calls_in, calls_of_all, calls_of_arm, calls_of_arms, calls_of_other}
+use Rattle.expr_binder.specs.Calls.{Calls, calls_of, calls_in, calls_of_all, calls_of_arm, calls_of_arms, calls_of_other}
 use Rattle.expr_binder.specs.Case.{chosen}
 use Rattle.expr_binder.specs.Scopes.{Columns}
 use Rattle.expr_binder.specs.Typed.{unary, binary}
-use Rattle.expr_binder.specs.Meaning.{meaning, of_node, node_of, place_of, meanings, arm_meaning, arms_meaning, other_meaning, single, applied, applied_to_one, call_meaning}
-use Rattle.expr_binder.proofs.CallSteps.{calls_of-is, calls-Number, calls-Str, calls-Null, calls-Truth, calls-Name, calls-Call, calls-CountAll, calls-Not, calls-Neg, calls-IsNull, calls-Binary, calls-Case, calls-Cast}
-use Rattle.expr_binder.proofs.MeaningSteps.{meaning_is, node-Number, node-Str, node-Null, node-Truth, node-Name, node-Call, node-CountAll, node-Not, node-Neg, node-IsNull, node-Binary, node-Case, node-Cast}
+use Rattle.expr_binder.specs.Meaning.{meaning, of_node, node_of, place_of, meanings, arm_meaning, arms_meaning, other_meaning, single, applied, applied_to_one}
+use Rattle.expr_binder.proofs.CallSteps.{calls_of-is, calls-Number, calls-Str, calls-Null, calls-Truth, calls-Name, calls-Call, calls-Not, calls-Neg, calls-IsNull, calls-Binary, calls-Case, calls-Cast}
+use Rattle.expr_binder.proofs.MeaningSteps.{meaning_is, node-Call, node-CountAll, node-Not, node-Neg, node-IsNull, node-Binary, node-Case, node-Cast}
 use Rattle.binder_laws.proofs.Holding.{Holds, after, whatever}
 use Rattle.binder_laws.proofs.Selves.{anyway}
 use Rattle.binder_laws.proofs.Meanings.{over_none}
