@@ -6,9 +6,10 @@ use Rattle.run_journal.specs.declared.entry.Entry.{Entry}
 use Rattle.core_frame.specs.Frame.{place_of}
 use Rattle.core_frame.specs.declared.place.Place.TheVariants.{Done}
 use Rattle.physical_plan.specs.declared.plan.Plan.{Plan}
-use Rattle.physical_plan.specs.Counts.{counts_of}
-use Rattle.physical_plan.specs.Layout.{shape, numbers}
-use Rattle.physical_plan.proofs.Shapes.{is_shape}
+use Rattle.plan_shape.specs.Counts.{counts_of}
+use Rattle.plan_shape.specs.Layout.{shape}
+use Rattle.physical_plan.specs.Numbers.{numbers}
+use Rattle.plan_shape.proofs.Shapes.{is_shape}
 use Rattle.logical_plan.specs.Items.{Item, of_rows}
 use Rattle.tree_laws.specs.Trees.{poll, Ends, gave_of}
 use Rattle.tree_laws.specs.Linked.{whole}

@@ -6,8 +6,9 @@ use Rattle.std.proofs.lemmas.List.Sums.{sum_by-append}
 use Rattle.run_journal.specs.declared.entry.Entry.{Entry}
 use Rattle.task_shape.specs.Shape.{task_at, is_group, width}
 use Rattle.physical_plan.specs.declared.plan.Plan.{Plan}
-use Rattle.physical_plan.specs.Layout.{shape, numbers, numbers_from}
-use Rattle.physical_plan.proofs.Shapes.{is_shape}
+use Rattle.plan_shape.specs.Layout.{shape}
+use Rattle.physical_plan.specs.Numbers.{numbers, numbers_from}
+use Rattle.plan_shape.proofs.Shapes.{is_shape}
 use Rattle.history_laws.specs.Histories.{Past}
 use Rattle.logical_plan.specs.Items.{Cells, Item, of_rows, concat}
 use Rattle.tree_laws.specs.Operators.{Told, Op, IsFront, Reads, ReadsAll}

@@ -10,9 +10,9 @@ use Rattle.core_frame.specs.declared.place.Place.TheVariants.{Done}
 use Rattle.physical_plan.specs.declared.plan.Plan.{Plan}
 use Rattle.physical_plan.specs.declared.plan.Plan.TheOpen.{Plan-F}
 use Rattle.physical_plan.specs.declared.plan.Plan.TheViews.{roll-Plan}
-use Rattle.physical_plan.specs.Counts.{counts_of}
-use Rattle.physical_plan.specs.Layout.{shape}
-use Rattle.physical_plan.proofs.Shapes.{is_shape}
+use Rattle.plan_shape.specs.Counts.{counts_of}
+use Rattle.plan_shape.specs.Layout.{shape}
+use Rattle.plan_shape.proofs.Shapes.{is_shape}
 use Rattle.history_laws.specs.Histories.{Past}
 use Rattle.logical_plan.specs.Items.{Cells, Item, rows}
 use Rattle.logical_plan.specs.Allowed.{Allows}

@@ -1,6 +1,6 @@
 -- What partitions would give, from what those of their inputs would.
 use Rattle.std.proofs.Common.{ℕ, zero, suc, ◌+◌, ◌≡◌, refl, ap, ◌∙◌, subst, List, [], ◌∷◌, ◌++◌, length, get_or, map, Bool}
-use Rattle.physical_plan.specs.Layout.{numbers}
+use Rattle.physical_plan.specs.Numbers.{numbers}
 use Rattle.logical_plan.specs.Items.{Item}
 use Rattle.tree_laws.specs.Operators.{Op}
 use Rattle.tree_laws.specs.Trees.{File, Tree, Nothing, form, in_files}

@@ -3,7 +3,7 @@ use Rattle.std.specs.Prelude.{◌==◌, ◌%◌}
 use Rattle.std.specs.List.{filter, sum_by, flat_map}
 use Rattle.std.proofs.Common.{ℕ, zero, suc, ◌+◌, ◌<◌, ◌≡◌, refl, sym, ap, ◌∙◌, eqb, cond, List, [], ◌∷◌, ◌++◌, length, get_or, map, Bool, true, false, arith, zero-add, add-zero, mod-lt}
 use Rattle.std.proofs.lemmas.List.Sums.{sum_by-cons, sum_by-append}
-use Rattle.physical_plan.specs.Layout.{numbers, numbers_from}
+use Rattle.physical_plan.specs.Numbers.{numbers, numbers_from}
 use Rattle.logical_plan.specs.Items.{Item, concat}
 use Rattle.tree_laws.specs.Operators.{Told, IsSplit, ReadsAll, Op}
 use Rattle.content_laws.specs.Bags.{SameBag, sum_below, together, Alike}

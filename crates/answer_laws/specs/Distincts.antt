@@ -1,7 +1,7 @@
 -- Meaning: bodies in which DISTINCT is over rows of its kinds, with at least one column.
 use Rattle.std.specs.Prelude.{Bool, true, ◌&&◌, nat_lt, length, map}
 use Rattle.dfx_value.specs.KindedRows.{all_are}
-use Rattle.physical_plan.specs.Planned.{all_true}
+use Rattle.physical_plan.specs.Everywhere.{all_true}
 use Rattle.logical_plan.specs.declared.plan.Logical.{Logical}
 use Rattle.logical_plan.specs.declared.plan.Logical.TheOpen.{Logical-F}
 use Rattle.logical_plan.specs.declared.plan.Logical.TheFolds.{para-Logical}

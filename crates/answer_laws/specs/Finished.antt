@@ -4,7 +4,7 @@ use Rattle.run_journal.specs.declared.entry.Entry.{Entry}
 use Rattle.core_frame.specs.Frame.{place_of}
 use Rattle.core_frame.specs.declared.place.Place.TheVariants.{Done}
 use Rattle.physical_plan.specs.declared.plan.Plan.{Plan}
-use Rattle.physical_plan.specs.Layout.{shape}
+use Rattle.plan_shape.specs.Layout.{shape}
 use Rattle.tree_laws.specs.Runs.{State, IsReached}
 use Rattle.plan_tasks.specs.Trees.{Doing}
 use Rattle.plan_tasks.specs.Starts.{start_of}

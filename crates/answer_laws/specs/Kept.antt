@@ -11,7 +11,7 @@ use Rattle.scalar_exprs.specs.declared.expr.Expr.{Expr}
 use Rattle.physical_plan.specs.declared.plan.Plan.{Plan}
 use Rattle.physical_plan.specs.declared.plan.Plan.TheOpen.{Plan-F}
 use Rattle.physical_plan.specs.declared.plan.Plan.TheViews.{roll-Plan}
-use Rattle.physical_plan.specs.Layout.{numbers}
+use Rattle.physical_plan.specs.Numbers.{numbers}
 use Rattle.logical_plan.specs.Items.{Item, concat}
 use Rattle.content_laws.specs.Bags.{SameBag}
 use Rattle.content_laws.specs.Subsequences.{IsSubsequence}

@@ -8,7 +8,7 @@ use Rattle.dfx_value.specs.declared.op.AggCall.TheVariants.{CountAll, Count, Sum
 use Rattle.physical_plan.specs.declared.plan.Plan.{Plan}
 use Rattle.physical_plan.specs.declared.plan.Plan.TheOpen.{Plan-F}
 use Rattle.physical_plan.specs.declared.plan.Plan.TheFolds.{fold-Plan, para-Plan}
-use Rattle.physical_plan.specs.Layout.{numbers}
+use Rattle.physical_plan.specs.Numbers.{numbers}
 use Rattle.logical_plan.specs.Items.{Cells, Item, rows, concat, filter_items, project_items}
 use Rattle.logical_plan.specs.Joins.{joined}
 use Rattle.logical_plan.specs.Groups.{aggregated}

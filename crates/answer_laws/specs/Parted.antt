@@ -8,7 +8,7 @@ use Rattle.dfx_value.specs.declared.op.JoinKind.{JoinKind}
 use Rattle.scalar_exprs.specs.declared.expr.Expr.{Expr}
 use Rattle.physical_plan.specs.declared.plan.Plan.{Plan}
 use Rattle.physical_plan.specs.declared.plan.Plan.TheOpen.{Plan-F}
-use Rattle.physical_plan.specs.Layout.{numbers}
+use Rattle.physical_plan.specs.Numbers.{numbers}
 use Rattle.logical_plan.specs.Items.{Item, rows, concat}
 use Rattle.logical_plan.specs.Joins.{joined}
 use Rattle.logical_plan.specs.Groups.{aggregated, distinct}

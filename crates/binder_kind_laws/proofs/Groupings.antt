@@ -1,6 +1,7 @@
 -- The meaning of an expression over groups has its kind over those of the keys and of the calls, and each call in it has a kind.
 use Rattle.std.specs.Prelude.{slice_get}
 use Rattle.std.proofs.Common.{ℕ, zero, suc, ◌≡◌, ◌+◌, ◌<◌, refl, sym, ap, ◌∙◌, subst, true, Option, Some, None, Ok, Err, List, [], ◌∷◌, ◌++◌, map, length, arith}
+use Rattle.std.proofs.lemmas.Bool.{and_from}
 use Rattle.dfx_value.specs.declared.kind.Kind.{Kind}
 use Rattle.dfx_value.specs.declared.kind.Kind.TheVariants as kind
 use Rattle.dfx_value.specs.declared.op.Op.{Op}
@@ -31,7 +32,6 @@ use Rattle.expr_binder.specs.Meaning.{meaning, of_node, node_of, place_of, key_o
 use Rattle.expr_binder.proofs.CallSteps.{calls_of-is, calls-Number, calls-Str, calls-Null, calls-Truth, calls-Name, calls-Call, calls-CountAll, calls-Not, calls-Neg, calls-IsNull, calls-Binary, calls-Case, calls-Cast}
 use Rattle.expr_binder.proofs.MeaningSteps.{meaning_is, node-Number, node-Str, node-Null, node-Truth, node-Name, node-Call, node-CountAll, node-Not, node-Neg, node-IsNull, node-Binary, node-Case, node-Cast}
 use Rattle.sql_binder.specs.Sources.{kinds}
-use Rattle.physical_plan.proofs.Everywhere.{both_true}
 use Rattle.binder_laws.proofs.Holding.{Holds, after, answered, whatever, where_some, weaker, Every, every_append, every_split}
 use Rattle.binder_laws.proofs.Selves.{nat_self, self_is, self_at, selves}
 use Rattle.binder_laws.proofs.Found.{place_bound, IsFound, HasCalls}
@@ -123,7 +123,7 @@ module _ (columns : Columns) (real : RealColumns columns) (g : Groups) (keyed : 
     where
       is_self : same columns e e ≡ true
       is_self = self_is columns e ∙ ap (λ (n : NodeAst). same_nodes columns n n) q ∙ self_at columns (node.Call f (a ∷ [])) (NodeAst-F.Call f (a ∷ [])) (node.rolls-Call f (a ∷ []))
-          ∙ both_true _ _ (nat_self (function_rank f)) (both_true _ _ (answered (λ t. same columns a a ≡ true) (meaning columns a None) t (selves columns a) i) refl)
+          ∙ and_from _ _ (nat_self (function_rank f)) (and_from _ _ (answered (λ t. same columns a a ≡ true) (meaning columns a None) t (selves columns a) i) refl)
 
       fitting : (k : Kind) → agg_kind (call_of f) (Some (settled t).1) ≡ Some k → Fitting columns f a
       fitting k p = record { typed = t; is = i; kind = k; gives = p }

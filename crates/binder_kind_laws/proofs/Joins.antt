@@ -27,7 +27,7 @@ use Rattle.join_lowering.specs.declared.lower.Side.{Side}
 use Rattle.join_lowering.specs.Keys.{split_at, conjuncts, columns, is_left, is_right, uses_left, uses_right, oriented, equated, key_of, keys, others, conjoined, residual}
 use Rattle.join_lowering.specs.Lowering.{renumbered, without_left, spread, node_column, column_of, plain_key, cons_both, plain_keys, columns_from, keys_from, left_exprs, right_exprs, extended, join_extended, on_appended, on_keys, where_keyed, lowered}
 use Rattle.join_lowering.proofs.Nodes.{columns-Column, conjuncts-Column, conjuncts-Const, conjuncts-Not, conjuncts-Neg, conjuncts-IsNull, conjuncts-Binary, conjuncts-Case, conjuncts-Coalesce, conjuncts-Cast, conjuncts-Abs, conjuncts-Length}
-use Rattle.range_laws.specs.Ranges.{are_below, rest_columns}
+use Rattle.planned_laws.specs.Ranges.{are_below, rest_columns}
 use Rattle.binder_laws.proofs.Holding.{Every, every_append}
 use Rattle.binder_laws.proofs.Readings.{Reads}
 use Rattle.binder_laws.proofs.Parts.{IsKey, parts_read, keys_are, residual_reads}

@@ -36,7 +36,7 @@ use Rattle.expr_binder.specs.Typed.{settled, of_kind, unary, binary}
 use Rattle.expr_binder.specs.Meaning.{meaning, of_node, place_of, meanings, arm_meaning, arms_meaning, other_meaning, single, applied, applied_to_one, call_meaning, case_meaning, column, kind_of_column, number, unary_meaning, binary_meaning}
 use Rattle.expr_binder.proofs.MeaningSteps.{meaning_is, node-Number, node-Str, node-Null, node-Truth, node-Name, node-Call, node-CountAll, node-Not, node-Neg, node-IsNull, node-Binary, node-Case, node-Cast}
 use Rattle.sql_binder.specs.Sources.{kinds}
-use Rattle.range_laws.specs.Ranges.{are_below}
+use Rattle.planned_laws.specs.Ranges.{are_below}
 use Rattle.binder_laws.proofs.Holding.{Holds, after, answered, where_some, Every}
 use Rattle.binder_laws.proofs.Meanings.{named_below, over_none}
 use Rattle.binder_kind_laws.proofs.Settled.{Real, HasKind, Typing, settled_kind, const_kind, column_has, number_real, length_real, of_kind_has, unary_has, binary_has}

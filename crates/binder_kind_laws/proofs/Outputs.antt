@@ -20,7 +20,7 @@ use Rattle.logical_build.specs.Outputs as outs
 use Rattle.sql_binder.specs.Each.{each}
 use Rattle.sql_binder.specs.Items.{kind_at, name_at, key_from, of_key, star, given, is_given, stars, item_name, output, expr_output, outputs_of, are_too_many, width_of, place_of_item, outputs_behind, outputs_after, outputs, is_column}
 use Rattle.sql_binder.specs.Sources.{kinds}
-use Rattle.range_laws.specs.Ranges.{are_below}
+use Rattle.planned_laws.specs.Ranges.{are_below}
 use Rattle.binder_laws.proofs.Holding.{Holds, after, unless, weaker, Every, every_append, AreSo, each_holds}
 use Rattle.binder_laws.proofs.Meanings.{numbers_below}
 use Rattle.binder_kind_laws.proofs.Settled.{Real, HasKind, Typing, settled_kind, column_has}

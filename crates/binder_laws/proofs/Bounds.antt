@@ -12,8 +12,8 @@ use Rattle.sql_binder.specs.Orders.{Single, item_tests, order, limit, offset}
 use Rattle.sql_binder.specs.Selects.{Selecting, select, union_of}
 use Rattle.sql_tables.specs.Tables.{tables}
 use Rattle.sql_binder.specs.Bound.{single, query_of, bound}
-use Rattle.range_laws.specs.Ranges.{are_below, key_columns}
-use Rattle.range_laws.specs.Queries.{body_width, QueryInRange}
+use Rattle.planned_laws.specs.Ranges.{are_below, key_columns}
+use Rattle.planned_laws.specs.Queries.{body_width, QueryInRange}
 use Rattle.binder_laws.proofs.Holding.{Holds, after, whatever, answered, weaker, Every}
 use Rattle.binder_laws.proofs.Items.{Fits, FitsItems}
 use Rattle.binder_laws.proofs.Unions.{Selects, union_fits}

@@ -27,9 +27,9 @@ use Rattle.sql_binder.specs.Sources.{kinds, scanned, number_of_table, names_at, 
 use Rattle.sql_binder.specs.Selects.{Parts, Selecting, union_of, selected, select, reading_of, joining_of}
 use Rattle.binder_laws.proofs.Trees.{select_is, joining_is, named_is, derived_is}
 use Rattle.join_lowering.specs.Keys.{columns}
-use Rattle.range_laws.specs.Ranges.{are_below}
-use Rattle.range_laws.specs.Queries.{body_width, body_in_range}
-use Rattle.range_laws.proofs.BodyNodes.{holds-Scan, holds-Filter, width-Scan, width-Filter}
+use Rattle.planned_laws.specs.Ranges.{are_below}
+use Rattle.planned_laws.specs.Queries.{body_width, body_in_range}
+use Rattle.planned_laws.proofs.BodyNodes.{holds-Scan, holds-Filter, width-Scan, width-Filter}
 use Rattle.binder_laws.proofs.Holding.{Holds, after, whatever, unless, where_some, weaker, Every}
 use Rattle.binder_laws.proofs.Readings.{Reads, Typing, tested_reads}
 use Rattle.binder_laws.proofs.Meanings.{means}

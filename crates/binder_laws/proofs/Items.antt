@@ -30,10 +30,10 @@ use Rattle.sql_binder.specs.Grouped.{is_number, key, keys, calls, is_grouped, se
 use Rattle.sql_binder.specs.Orders.{item_tests}
 use Rattle.sql_binder.specs.Selects.{Parts, projected, plain, over_keys, clauses, groups_body, grouped, selected}
 use Rattle.physical_plan.proofs.Everywhere.{both_true}
-use Rattle.range_laws.specs.Ranges.{are_below, call_column, call_columns, expr_columns}
-use Rattle.range_laws.specs.Queries.{body_width, body_in_range}
-use Rattle.range_laws.proofs.Below.{below_append}
-use Rattle.range_laws.proofs.BodyNodes.{holds-Filter, holds-Project, holds-Aggregate, holds-Distinct, width-Filter, width-Project, width-Aggregate, width-Distinct}
+use Rattle.planned_laws.specs.Ranges.{are_below, call_column, call_columns, expr_columns}
+use Rattle.planned_laws.specs.Queries.{body_width, body_in_range}
+use Rattle.planned_laws.proofs.Below.{below_append}
+use Rattle.planned_laws.proofs.BodyNodes.{holds-Filter, holds-Project, holds-Aggregate, holds-Distinct, width-Filter, width-Project, width-Aggregate, width-Distinct}
 use Rattle.binder_laws.proofs.Holding.{Holds, after, unless, Every, every_of, AreSo, each_holds}
 use Rattle.binder_laws.proofs.Readings.{Reads, Typing, given_reads, tested_reads}
 use Rattle.binder_laws.proofs.Meanings.{means}

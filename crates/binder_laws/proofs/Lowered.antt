@@ -12,11 +12,11 @@ use Rattle.physical_plan.proofs.Everywhere.{both_true, and_parts}
 use Rattle.join_lowering.specs.declared.lower.Side.{Side}
 use Rattle.join_lowering.specs.Keys.{conjuncts, columns, keys, residual, uses_left, uses_right}
 use Rattle.join_lowering.specs.Lowering.{renumbered, without_left, spread, plain_keys, columns_from, keys_from, left_exprs, right_exprs, extended, join_extended, on_appended, on_keys, where_keyed, lowered}
-use Rattle.range_laws.specs.Ranges.{are_below, expr_columns, rest_columns}
-use Rattle.range_laws.proofs.Below.{below_append, below_split}
+use Rattle.planned_laws.specs.Ranges.{are_below, expr_columns, rest_columns}
+use Rattle.planned_laws.proofs.Below.{below_append, below_split}
 use Rattle.join_lowering.proofs.Nodes.{columns-Column}
-use Rattle.range_laws.specs.Queries.{body_width, body_in_range}
-use Rattle.range_laws.proofs.BodyNodes.{width-Project, width-Join, holds-Project, holds-Join}
+use Rattle.planned_laws.specs.Queries.{body_width, body_in_range}
+use Rattle.planned_laws.proofs.BodyNodes.{width-Project, width-Join, holds-Project, holds-Join}
 use Rattle.binder_laws.proofs.Holding.{Every}
 use Rattle.binder_laws.proofs.Readings.{Reads}
 use Rattle.binder_laws.proofs.Parts.{IsKey, parts_read, keys_are, residual_reads, plain_keys_below}

@@ -28,7 +28,7 @@ use Rattle.expr_binder.specs.Meaning.{meaning, of_node, place_of, meanings, arm_
 use Rattle.expr_binder.proofs.MeaningSteps.{meaning_is, node-Number, node-Str, node-Null, node-Truth, node-Name, node-Call, node-CountAll, node-Not, node-Neg, node-IsNull, node-Binary, node-Case, node-Cast}
 use Rattle.join_lowering.proofs.Nodes.{columns-Abs, columns-Length}
 use Rattle.physical_plan.proofs.Everywhere.{both_true}
-use Rattle.range_laws.specs.Ranges.{are_below}
+use Rattle.planned_laws.specs.Ranges.{are_below}
 use Rattle.binder_laws.proofs.Holding.{Holds, after, whatever, unless, where_some, Every}
 use Rattle.binder_laws.proofs.Readings.{Typing, ArmReads, given_reads, of_kind_reads, unary_reads, binary_reads, coalesced_reads, chosen_reads, column_reads, const_reads}
 

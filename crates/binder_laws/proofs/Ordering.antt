@@ -15,7 +15,7 @@ use Rattle.expr_binder.specs.Scopes.{is_text}
 use Rattle.expr_binder.specs.Meaning.{place_of}
 use Rattle.sql_binder.specs.Orders.{Single, item_tests, first_from, number_from, item_of, named_from, named_or, whole, position, column_of_key, sort_key, key_of, order}
 use Rattle.physical_plan.proofs.Everywhere.{both_true, and_parts}
-use Rattle.range_laws.specs.Ranges.{are_below, key_columns}
+use Rattle.planned_laws.specs.Ranges.{are_below, key_columns}
 use Rattle.binder_laws.proofs.Holding.{Holds, after, where_some, weaker, Every, AreSo, each_holds, every_of}
 
 first_below : (tests : List (ExprAst → Bool)) (k c : ℕ) (e : ExprAst) → first_from k tests e ≡ Some c → c < k + length tests

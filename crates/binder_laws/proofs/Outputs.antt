@@ -19,8 +19,8 @@ use Rattle.sql_binder.specs.Each.{each}
 use Rattle.sql_binder.specs.Items.{star, of_key, key_from, name_at, stars, given, is_given, is_column, expr_output, item_name, output, outputs_of, are_too_many, width_of, place_of_item, outputs_behind, outputs_after, outputs}
 use Rattle.sql_binder.specs.Orders.{tests_of, column_tests, item_tests}
 use Rattle.physical_plan.proofs.Everywhere.{both_true, and_parts}
-use Rattle.range_laws.specs.Ranges.{are_below, expr_columns}
-use Rattle.range_laws.proofs.Below.{below_append}
+use Rattle.planned_laws.specs.Ranges.{are_below, expr_columns}
+use Rattle.planned_laws.proofs.Below.{below_append}
 use Rattle.binder_laws.proofs.Holding.{Holds, after, unless, weaker, Every, every_append, every_of, AreSo, each_holds}
 use Rattle.binder_laws.proofs.Readings.{Reads, Typing, given_reads, column_reads}
 use Rattle.binder_laws.proofs.Meanings.{numbers_below, means}

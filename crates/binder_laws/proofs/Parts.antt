@@ -15,8 +15,8 @@ use Rattle.join_lowering.specs.Lowering.{node_column, column_of, plain_key, cons
 use Rattle.join_lowering.proofs.Nodes.{columns-Column, columns-Binary, conjuncts-Column, conjuncts-Const, conjuncts-Not, conjuncts-Neg, conjuncts-IsNull, conjuncts-Binary, conjuncts-Case, conjuncts-Coalesce, conjuncts-Cast, conjuncts-Abs, conjuncts-Length}
 use Rattle.physical_plan.specs.Properties.{left_keys, right_keys}
 use Rattle.physical_plan.proofs.Everywhere.{both_true, and_parts}
-use Rattle.range_laws.specs.Ranges.{are_below, rest_columns}
-use Rattle.range_laws.proofs.Below.{below_append, below_split}
+use Rattle.planned_laws.specs.Ranges.{are_below, rest_columns}
+use Rattle.planned_laws.proofs.Below.{below_append, below_split}
 use Rattle.binder_laws.proofs.Holding.{Every, every_append}
 use Rattle.binder_laws.proofs.Readings.{Reads}
 

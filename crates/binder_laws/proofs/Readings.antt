@@ -19,8 +19,8 @@ use Rattle.expr_binder.specs.Typed.{Kinded, given, settled, kind_or, or_mismatch
 use Rattle.join_lowering.specs.Keys.{columns}
 use Rattle.join_lowering.specs.Words.{arm_columns, all_columns}
 use Rattle.join_lowering.proofs.Nodes.{columns-Column, columns-Const, columns-Not, columns-Neg, columns-IsNull, columns-Binary, columns-Case, columns-Coalesce, columns-Cast}
-use Rattle.range_laws.specs.Ranges.{are_below}
-use Rattle.range_laws.proofs.Below.{below_append}
+use Rattle.planned_laws.specs.Ranges.{are_below}
+use Rattle.planned_laws.proofs.Below.{below_append}
 use Rattle.binder_laws.proofs.Holding.{Holds, whatever, Every}
 
 module _ (w : ℕ) where

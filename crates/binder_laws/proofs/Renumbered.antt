@@ -14,7 +14,7 @@ use Rattle.join_lowering.specs.Lowering.{renumbered, without_left, spread}
 use Rattle.join_lowering.specs.Words.{arm_columns, all_columns, renumbered_arms}
 use Rattle.join_lowering.proofs.Nodes.{columns-Column, columns-Const, columns-Not, columns-Neg, columns-IsNull, columns-Binary, columns-Case, columns-Coalesce, columns-Cast, columns-Abs, columns-Length, renumbered-Column, renumbered-Const, renumbered-Not, renumbered-Neg, renumbered-IsNull, renumbered-Binary, renumbered-Case, renumbered-Coalesce, renumbered-Cast, renumbered-Abs, renumbered-Length}
 use Rattle.physical_plan.proofs.Everywhere.{both_true, and_parts}
-use Rattle.range_laws.specs.Ranges.{are_below}
+use Rattle.planned_laws.specs.Ranges.{are_below}
 
 module _ (f : ℕ → ℕ) where
   abbrev Renames : Expr → Type 0

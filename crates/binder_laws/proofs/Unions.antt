@@ -12,12 +12,12 @@ use Rattle.sql_binder.specs.Each.{each}
 use Rattle.logical_build.specs.Unions.{unified_after, all_unified, are_same, cast, casts, cast_if, with_kinds}
 use Rattle.sql_binder.specs.Unions.{Placed, unified_with, common_kinds, bodies, union_body, united_with, united}
 use Rattle.sql_binder.specs.Selects.{Selecting, placed, union_of}
-use Rattle.physical_plan.specs.Planned.{all_true}
+use Rattle.physical_plan.specs.Everywhere.{all_true}
 use Rattle.physical_plan.proofs.Everywhere.{both_true}
-use Rattle.range_laws.specs.Ranges.{are_below, expr_columns, are_all}
-use Rattle.range_laws.specs.Queries.{body_width, body_in_range}
-use Rattle.range_laws.proofs.BodyNodes.{holds-Project, width-Project, holds-UnionAll, width-UnionAll}
-use Rattle.range_laws.proofs.Below.{below_append}
+use Rattle.planned_laws.specs.Ranges.{are_below, expr_columns, are_all}
+use Rattle.planned_laws.specs.Queries.{body_width, body_in_range}
+use Rattle.planned_laws.proofs.BodyNodes.{holds-Project, width-Project, holds-UnionAll, width-UnionAll}
+use Rattle.planned_laws.proofs.Below.{below_append}
 use Rattle.join_lowering.specs.Keys.{columns}
 use Rattle.scalar_exprs.specs.declared.expr.Expr.TheVariants as expr
 use Rattle.expr_binder.specs.declared.typed.Typed.TheVariants as typed

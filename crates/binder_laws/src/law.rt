@@ -6,8 +6,8 @@ ghost use Rattle.sql_binder.specs.Bound.{bound};
 ghost use Rattle.physical_build.specs.Build.{build};
 ghost use Rattle.enforce_dist.specs.Distribute.{enforce_distribution};
 ghost use Rattle.enforce_sort.specs.Arrange.{enforce_sorting};
-ghost use Rattle.range_laws.specs.Queries.{body_width, QueryInRange};
-ghost use Rattle.range_laws.specs.Wholly.{IsWhollyPlanned};
+ghost use Rattle.planned_laws.specs.Queries.{body_width, QueryInRange};
+ghost use Rattle.planned_laws.specs.Wholly.{IsWhollyPlanned};
 
 /// The query that a script means over tables of any schemas has its columns in range, and a name for each column. So over every number
 /// of files and for every number of partitions its plan is finished with all columns in range.

@@ -11,7 +11,7 @@ use Rattle.physical_plan.specs.declared.plan.Plan.TheOpen.{Plan-F}
 use Rattle.physical_plan.specs.declared.plan.Plan.TheVariants.{Scan, Filter, Project, PartialGroup, FinalGroup, HashJoin, Sort, Merge, Coalesce, Repartition, UnionAll, Limit, outs-Scan, outs-Filter, outs-Project, outs-PartialGroup, outs-FinalGroup, outs-HashJoin, outs-Sort, outs-Merge, outs-Coalesce, outs-Repartition, outs-UnionAll, outs-Limit}
 use Rattle.physical_plan.specs.declared.plan.Plan.TheViews.{roll-Plan, roll-out-Plan}
 use Rattle.physical_plan.specs.declared.plan.Plan.TheFolds.{fold-roll-Plan, map-Plan}
-use Rattle.physical_plan.specs.Planned.{kids}
+use Rattle.physical_plan.specs.Everywhere.{kids}
 use Rattle.dfx_prepare.specs.NodeText.{words_of, top_words}
 use Rattle.dfx_prepare.proofs.Writes.{two_writes}
 use Rattle.dfx_prepare.specs.PlanText.{Lines, line, indent, all_at, node_lines, lines_of, input_lines}

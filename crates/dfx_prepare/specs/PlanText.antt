@@ -3,7 +3,7 @@ use Rattle.std.specs.Prelude.{ℕ, zero, suc, ◌+◌, List, [], ◌∷◌, ◌+
 use Rattle.physical_plan.specs.declared.plan.Plan.{Plan, out-Plan}
 use Rattle.physical_plan.specs.declared.plan.Plan.TheOpen.{Plan-F}
 use Rattle.physical_plan.specs.declared.plan.Plan.TheFolds.{fold-Plan}
-use Rattle.physical_plan.specs.Planned.{kids}
+use Rattle.physical_plan.specs.Everywhere.{kids}
 use Rattle.dfx_prepare.specs.NodeText.{words_of}
 
 -- two spaces a level

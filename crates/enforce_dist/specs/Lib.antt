@@ -1,2 +1,1 @@
 pub mod Distribute
-pub mod Spread

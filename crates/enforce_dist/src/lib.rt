@@ -2,8 +2,6 @@
 #![tactic(auto)]
 
 mod distribute;
-mod law;
 mod needs;
 
 pub use distribute::enforce_distribution;
-pub use law::spread_law;

@@ -21,11 +21,10 @@ use Rattle.physical_plan.specs.declared.plan.Plan.TheVariants.{rolls-Scan, rolls
 use Rattle.physical_plan.specs.declared.plan.Plan.TheOpen.{Plan-F}
 use Rattle.physical_plan.specs.declared.plan.Plan.TheViews.{roll-Plan}
 use Rattle.physical_plan.specs.declared.plan.Plan.TheFolds.{fold-roll-Plan, para-roll-Plan, map-Plan, ind-Plan}
-use Rattle.physical_plan.specs.Layout.{numbers}
+use Rattle.physical_plan.specs.Numbers.{numbers}
 use Rattle.answer_laws.specs.Meant.{Meaning, meaning, answered, meaning_of, meant, Phases}
-use Rattle.physical_plan.specs.Planned.{bare_node, erased, all_true}
-use Rattle.physical_plan.specs.Plain.{sorted_by, limited}
-use Rattle.physical_build.specs.Build.{Built, node, built_of, body_plan, build, two_phases}
+use Rattle.physical_plan.specs.Everywhere.{bare_node, erased, all_true}
+use Rattle.physical_build.specs.Build.{sorted_by, limited, Built, node, built_of, body_plan, build, two_phases}
 use Rattle.answer_laws.specs.Distincts.{distinct_node, has_distincts}
 use Rattle.answer_laws.specs.Parted.{LawsOfParts}
 use Rattle.answer_laws.proofs.Meaning.{both_true, above_zero, all_pass}

@@ -16,7 +16,7 @@ use Rattle.core_frame.specs.Frame.{Frame, gate_of, channel_of, place_of, is_owne
 use Rattle.core_frame.specs.Step.{Need, Scan, Recv, Send, Grow, Free, Writes, Finish, Fail, made, made_send, made_send_to, made_recv, made_grow, may_fail, cause_of, failed, owner_step, claim_step, frame_step, is_over}
 use Rattle.history_laws.specs.Histories.{Run, run_step, run_after}
 use Rattle.physical_plan.specs.declared.plan.Plan.{Plan}
-use Rattle.physical_plan.specs.Layout.{shape}
+use Rattle.plan_shape.specs.Layout.{shape}
 use Rattle.logical_plan.specs.Items.{Cells}
 use Rattle.logical_plan.specs.Body.{Tables}
 use Rattle.tree_laws.specs.Trees.{Poll, Gives, Ends, Moves, Asks, poll, FormReads, cause_at}
@@ -29,7 +29,7 @@ use Rattle.plan_tasks.specs.Sources.{files_of}
 use Rattle.plan_tasks.specs.Placed.{deal_of, HasChannels}
 use Rattle.plan_tasks.proofs.Begun.{is_start}
 use Rattle.plan_tasks.proofs.Senders.{are_senders}
-use Rattle.physical_plan.proofs.Shapes.{is_shape}
+use Rattle.plan_shape.proofs.Shapes.{is_shape}
 use Rattle.tree_laws.proofs.Turns.{settle_keeps}
 use Rattle.tree_laws.proofs.Runs.{reached as run_reached}
 use Rattle.content_laws.proofs.Flows.{exist, flows}

@@ -9,7 +9,7 @@ use Rattle.run_journal.specs.declared.entry.EntryKind.TheVariants.{Failed}
 use Rattle.core_frame.specs.Step.{Fail}
 use Rattle.history_laws.specs.Histories.{Past, Reply}
 use Rattle.physical_plan.specs.declared.plan.Plan.{Plan}
-use Rattle.physical_plan.specs.Layout.{shape}
+use Rattle.plan_shape.specs.Layout.{shape}
 use Rattle.logical_plan.specs.declared.query.Query.{Query}
 use Rattle.logical_plan.specs.Items.{Cells, Item, faults, concat}
 use Rattle.logical_plan.specs.Body.{Tables, all_faults}
@@ -20,7 +20,7 @@ use Rattle.content_laws.specs.Whole.{tree_in, AreFull}
 use Rattle.plan_tasks.specs.Trees.{Doing, partitions_of}
 use Rattle.plan_tasks.specs.Tops.{tops}
 use Rattle.plan_tasks.specs.Starts.{start_of}
-use Rattle.plan_tasks.specs.Sources.{files_of}
+use Rattle.plan_tasks.specs.Sources.{files_of, places_of}
 use Rattle.plan_tasks.specs.Placed.{deal_of, HasChannels}
 use Rattle.join_laws.proofs.Items.{fails, pass_weigh, pass_from}
 use Rattle.answer_laws.specs.Gives.{AllGive}
@@ -34,8 +34,8 @@ use Rattle.part_laws.proofs.Lists.{parts}
 use Rattle.plan_props.specs.Meets.{Hashing}
 use Rattle.finished_laws.specs.Sound.{on_properties}
 use Rattle.finished_laws.specs.Engine.{IsEngineBy}
-use Rattle.physical_plan.specs.Planned.{erased, everywhere, IsFinished}
-use Rattle.plan_tasks.specs.Sources.{places_of}
+use Rattle.physical_plan.specs.Everywhere.{erased, everywhere}
+use Rattle.planned_laws.specs.Finished.{IsFinished}
 use Rattle.node_laws.specs.Tests.{needs_in_range}
 use Rattle.finished_laws.specs.Known.{is_known}
 use Rattle.finished_laws.proofs.Channels.{channels}

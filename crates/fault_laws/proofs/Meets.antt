@@ -19,7 +19,7 @@ use Rattle.physical_plan.specs.declared.plan.Plan.{Plan}
 use Rattle.physical_plan.specs.declared.plan.Plan.TheOpen.{Plan-F}
 use Rattle.physical_plan.specs.declared.plan.Plan.TheViews.{roll-Plan}
 use Rattle.physical_plan.specs.declared.plan.Plan.TheFolds.{para-roll-Plan, map-Plan}
-use Rattle.physical_plan.specs.Layout.{numbers}
+use Rattle.physical_plan.specs.Numbers.{numbers}
 use Rattle.logical_plan.specs.Items.{Cells, Item, rows, faults, concat, of_rows, of_faults, filtered, projected}
 use Rattle.logical_plan.specs.Joins.{joined}
 use Rattle.logical_plan.specs.Groups.{alike, group_of, group_item, one_group, aggregated}

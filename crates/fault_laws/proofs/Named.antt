@@ -6,7 +6,7 @@ use Rattle.std.proofs.lemmas.List.Sums.{list_all-from_AllPass}
 use Rattle.dfx_value.specs.declared.fault.ItemFault.{ItemFault}
 use Rattle.run_journal.specs.declared.cause.Cause.{Cause}
 use Rattle.physical_plan.specs.declared.plan.Plan.{Plan}
-use Rattle.physical_plan.specs.Layout.{numbers_from}
+use Rattle.physical_plan.specs.Numbers.{numbers_from}
 use Rattle.logical_plan.specs.Items.{Item, faults}
 use Rattle.logical_plan.specs.Body.{Tables}
 use Rattle.tree_laws.specs.Trees.{File}

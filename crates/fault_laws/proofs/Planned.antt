@@ -2,7 +2,8 @@
 use Rattle.std.specs.Prelude.{nat_lt}
 use Rattle.std.proofs.Common.{ℕ, ◌<◌, ◌≡◌, inl, inr, refl, List, Bool, true, false, ◌||◌, is_some}
 use Rattle.physical_plan.specs.declared.plan.Plan.{Plan}
-use Rattle.physical_plan.specs.Planned.{everywhere, IsFinished}
+use Rattle.physical_plan.specs.Everywhere.{everywhere}
+use Rattle.planned_laws.specs.Finished.{IsFinished}
 use Rattle.physical_build.specs.Build.{build}
 use Rattle.logical_plan.specs.declared.query.Query.{Query}
 use Rattle.logical_plan.specs.Body.{Tables}

@@ -2,7 +2,7 @@
 use Rattle.std.specs.Prelude.{nat_lt}
 use Rattle.std.proofs.Common.{ℕ, inl, inr, ◌≡◌, ◌==◌, refl, ◌∙◌, subst, List, [], ◌∷◌, length, map, Bool, true, false, ◌&&◌}
 use Rattle.std.proofs.lemmas.Bool.{false≢true}
-use Rattle.physical_plan.specs.Planned.{all_true}
+use Rattle.physical_plan.specs.Everywhere.{all_true}
 use Rattle.physical_plan.specs.declared.plan.Plan.{Plan}
 use Rattle.physical_plan.specs.declared.plan.Plan.TheOpen.{Plan-F}
 use Rattle.physical_plan.specs.declared.plan.Plan.TheViews.{roll-Plan}

@@ -7,7 +7,8 @@ use Rattle.run_journal.specs.declared.entry.Entry.{Entry}
 use Rattle.physical_plan.specs.declared.plan.Plan.{Plan}
 use Rattle.physical_plan.specs.declared.plan.Plan.TheOpen.{Plan-F}
 use Rattle.physical_plan.specs.declared.plan.Plan.TheViews.{roll-Plan}
-use Rattle.physical_plan.specs.Layout.{shape, numbers}
+use Rattle.plan_shape.specs.Layout.{shape}
+use Rattle.physical_plan.specs.Numbers.{numbers}
 use Rattle.logical_plan.specs.Items.{Item, faults, concat}
 use Rattle.logical_plan.specs.Body.{Tables}
 use Rattle.tree_laws.specs.Trees.{File, Tree, Nothing, Files, Inlet, Node, Form, NoForm, FilesForm, InletForm, NodeForm, form}

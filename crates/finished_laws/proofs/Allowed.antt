@@ -10,13 +10,14 @@ use Rattle.physical_plan.specs.declared.plan.Plan.TheVariants as plan
 use Rattle.physical_plan.specs.declared.plan.Plan.TheVariants.{rolls-Limit}
 use Rattle.physical_plan.specs.declared.plan.Plan.TheOpen.{Plan-F}
 use Rattle.physical_plan.specs.declared.plan.Plan.TheViews.{roll-Plan, out-Plan, out-roll-Plan}
-use Rattle.physical_plan.specs.Counts.{counts_of}
-use Rattle.physical_plan.specs.Layout.{shape}
-use Rattle.physical_plan.specs.Plain.{sorted_by}
+use Rattle.plan_shape.specs.Counts.{counts_of}
+use Rattle.plan_shape.specs.Layout.{shape}
+use Rattle.physical_build.specs.Build.{sorted_by, body_plan, build}
 use Rattle.physical_plan.specs.Properties.{partitions, props}
-use Rattle.physical_plan.specs.Planned.{Test, everywhere, erased, spread_needs, order_needs, limited_order, LimitAtRoot, IsFinished}
-use Rattle.physical_plan.proofs.Shapes.{is_shape}
-use Rattle.physical_build.specs.Build.{body_plan, build}
+use Rattle.physical_plan.specs.Everywhere.{Test, everywhere, erased}
+use Rattle.physical_plan.specs.Needs.{spread_needs, order_needs}
+use Rattle.planned_laws.specs.Finished.{limited_order, LimitAtRoot, IsFinished}
+use Rattle.plan_shape.proofs.Shapes.{is_shape}
 use Rattle.logical_plan.specs.declared.query.Query.{Query}
 use Rattle.logical_plan.specs.Items.{of_rows}
 use Rattle.logical_plan.specs.Allowed.{Allows, Allowed}

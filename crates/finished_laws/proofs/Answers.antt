@@ -8,11 +8,12 @@ use Rattle.plan_props.specs.Satisfies.{satisfies_order}
 use Rattle.plan_props.specs.Meets.{Hashing}
 use Rattle.plan_props.proofs.Sound.{order_sound}
 use Rattle.physical_plan.specs.declared.plan.Plan.{Plan}
-use Rattle.physical_plan.specs.Counts.{counts_of}
-use Rattle.physical_plan.specs.Layout.{shape}
+use Rattle.plan_shape.specs.Counts.{counts_of}
+use Rattle.plan_shape.specs.Layout.{shape}
 use Rattle.physical_plan.specs.Properties.{declared_of, props}
-use Rattle.physical_plan.specs.Planned.{everywhere, spread_needs, order_needs}
-use Rattle.physical_plan.proofs.Shapes.{is_shape}
+use Rattle.physical_plan.specs.Everywhere.{everywhere}
+use Rattle.physical_plan.specs.Needs.{spread_needs, order_needs}
+use Rattle.plan_shape.proofs.Shapes.{is_shape}
 use Rattle.sort_laws.proofs.Rows.{sorted_from_order}
 use Rattle.logical_plan.specs.Items.{Item, rows, of_rows}
 use Rattle.logical_plan.specs.Body.{Tables}

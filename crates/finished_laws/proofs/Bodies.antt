@@ -12,19 +12,17 @@ use Rattle.logical_plan.specs.declared.plan.Logical.TheViews.{roll-Logical}
 use Rattle.logical_plan.specs.declared.plan.Logical.TheFolds.{fold-roll-Logical, para-roll-Logical, map-Logical, ind-Logical}
 use Rattle.logical_plan.specs.Items.{rows, concat}
 use Rattle.logical_plan.specs.Body.{Tables, whole}
-use Rattle.physical_plan.specs.Planned.{all_true}
+use Rattle.physical_plan.specs.Everywhere.{all_true}
 use Rattle.physical_plan.specs.declared.plan.Plan.{Plan}
 use Rattle.physical_plan.specs.declared.plan.Plan.TheVariants as plan
 use Rattle.physical_plan.specs.declared.plan.Plan.TheVariants.{rolls-Scan, rolls-Filter, rolls-Project, rolls-PartialGroup, rolls-FinalGroup, rolls-HashJoin, rolls-Sort, rolls-UnionAll}
 use Rattle.physical_plan.specs.declared.plan.Plan.TheOpen.{Plan-F}
 use Rattle.physical_plan.specs.declared.plan.Plan.TheViews.{roll-Plan}
 use Rattle.physical_plan.specs.declared.plan.Plan.TheFolds.{map-Plan}
-use Rattle.physical_plan.specs.Layout.{numbers}
-use Rattle.physical_plan.specs.Plain.{sorted_by}
-use Rattle.answer_laws.specs.Meant.{grouping, Meaning, meaning_of, files_of, is_whole, all_told, same_numbers, same_call, same_calls, finishes, told_node, is_told}
-use Rattle.answer_laws.specs.Meant.{Phases}
+use Rattle.physical_plan.specs.Numbers.{numbers}
+use Rattle.physical_build.specs.Build.{sorted_by, Built, node, built_of, body_plan, two_phases}
+use Rattle.answer_laws.specs.Meant.{grouping, Meaning, meaning_of, files_of, is_whole, all_told, same_numbers, same_call, same_calls, finishes, told_node, is_told, Phases}
 use Rattle.answer_laws.specs.Parted.{LawsOfParts}
-use Rattle.physical_build.specs.Build.{Built, node, built_of, body_plan, two_phases}
 use Rattle.answer_laws.specs.Distincts.{distinct_node, has_distincts}
 use Rattle.answer_laws.proofs.Meaning.{both_true}
 use Rattle.answer_laws.proofs.Built.{means, body_means}

@@ -4,7 +4,7 @@ use Rattle.physical_plan.specs.declared.plan.Plan.{Plan}
 use Rattle.physical_plan.specs.declared.plan.Plan.TheOpen.{Plan-F}
 use Rattle.physical_plan.specs.declared.plan.Plan.TheViews.{roll-Plan}
 use Rattle.physical_plan.specs.declared.plan.Plan.TheFolds.{map-Plan, ind-Plan}
-use Rattle.physical_plan.specs.Planned.{Test, node_holds, everywhere, all_true}
+use Rattle.physical_plan.specs.Everywhere.{Test, node_holds, everywhere, all_true}
 use Rattle.answer_laws.proofs.Meaning.{both_true}
 use Rattle.finished_laws.proofs.Everywhere.{both_are, rolled, seconds, firsts, one_below, two_below}
 

@@ -8,7 +8,8 @@ use Rattle.physical_plan.specs.declared.plan.Plan.{Plan}
 use Rattle.physical_plan.specs.declared.plan.Plan.TheOpen.{Plan-F}
 use Rattle.physical_plan.specs.declared.plan.Plan.TheViews.{roll-Plan}
 use Rattle.physical_plan.specs.declared.plan.Plan.TheFolds.{map-Plan, ind-Plan}
-use Rattle.physical_plan.specs.Planned.{Test, node_holds, everywhere, all_true, lean, goes_to, IsFinished}
+use Rattle.physical_plan.specs.Everywhere.{Test, node_holds, everywhere, all_true}
+use Rattle.planned_laws.specs.Finished.{lean, goes_to, IsFinished}
 use Rattle.plan_tasks.specs.Trees.{stages_in, sources_in}
 use Rattle.plan_tasks.specs.Tops.{Top, Topping, top_node, tops, tops_after, way_to}
 use Rattle.plan_tasks.specs.Placed.{IsOpen, AllOpen, HasChannels}

@@ -17,9 +17,11 @@ use Rattle.physical_plan.specs.declared.plan.Plan.{Plan}
 use Rattle.physical_plan.specs.declared.plan.Plan.TheOpen.{Plan-F}
 use Rattle.physical_plan.specs.declared.plan.Plan.TheViews.{roll-Plan}
 use Rattle.physical_plan.specs.declared.plan.Plan.TheFolds.{fold-roll-Plan, map-Plan, ind-Plan}
-use Rattle.physical_plan.specs.Counts.{Counted, count_node, counts_of, in_all}
+use Rattle.plan_shape.specs.Counts.{Counted, count_node, counts_of, in_all}
 use Rattle.physical_plan.specs.Properties.{Renaming, or_single, all_renamed, hashed_or_unknown, partitioning_renamed, join_partitioning, parts, counts, declared, declared_of, partitions, place_in, item_columns, kept_columns, props, left_keys, right_keys}
-use Rattle.physical_plan.specs.Planned.{Test, node_holds, everywhere, all_true, spread_needs, IsFinished}
+use Rattle.physical_plan.specs.Everywhere.{Test, node_holds, everywhere, all_true}
+use Rattle.physical_plan.specs.Needs.{spread_needs}
+use Rattle.planned_laws.specs.Finished.{IsFinished}
 use Rattle.answer_laws.proofs.Meaning.{both_true, equal_is}
 use Rattle.finished_laws.proofs.Everywhere.{rolled, seconds, one_below, two_below}
 

@@ -3,7 +3,7 @@ use Rattle.std.proofs.Common.{ℕ, zero, suc, ◌≡◌, ◌≤◌, inl, inr, re
 use Rattle.std.proofs.lemmas.Bool.{cases_lt}
 use Rattle.std.proofs.lemmas.List.{append-nil}
 use Rattle.plan_props.specs.Meets.{Row, Each, part}
-use Rattle.physical_plan.specs.NodeRows.{HoldsIn, Dealt, IsSubsequence as AreSomeOf}
+use Rattle.node_laws.specs.NodeRows.{HoldsIn, Dealt, IsSubsequence as AreSomeOf}
 use Rattle.logical_plan.specs.Items.{Item, rows, concat}
 use Rattle.content_laws.specs.Bags.{SameBag}
 use Rattle.content_laws.specs.Subsequences.{IsSubsequence}

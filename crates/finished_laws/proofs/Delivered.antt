@@ -15,9 +15,9 @@ use Rattle.plan_props.specs.Meets as meets
 use Rattle.plan_props.specs.Meets.{Hashing, AllEqual, Equals, cells_at, Each}
 use Rattle.physical_plan.specs.declared.plan.Plan.{Plan}
 use Rattle.physical_plan.specs.declared.plan.Plan.TheOpen.{Plan-F}
-use Rattle.physical_plan.specs.NodeRows.{Holds}
+use Rattle.node_laws.specs.NodeRows.{Holds}
 use Rattle.physical_plan.specs.Properties.{declared_of, props, left_keys, right_keys}
-use Rattle.physical_plan.specs.Planned.{group_need}
+use Rattle.physical_plan.specs.Needs.{group_need}
 use Rattle.scalar_exprs.specs.Groups.{same_value}
 use Rattle.scalar_exprs.specs.Truth.{is_null}
 use Rattle.logical_plan.specs.Items.{Cells, Item, rows}

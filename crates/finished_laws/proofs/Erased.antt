@@ -5,7 +5,7 @@ use Rattle.physical_plan.specs.declared.plan.Plan.TheVariants.{rolls-Scan, rolls
 use Rattle.physical_plan.specs.declared.plan.Plan.TheOpen.{Plan-F}
 use Rattle.physical_plan.specs.declared.plan.Plan.TheViews.{roll-Plan}
 use Rattle.physical_plan.specs.declared.plan.Plan.TheFolds.{map-Plan, ind-Plan}
-use Rattle.physical_plan.specs.Planned.{bare_node, erased}
+use Rattle.physical_plan.specs.Everywhere.{bare_node, erased}
 use Rattle.logical_plan.specs.Items.{rows}
 use Rattle.logical_plan.specs.Body.{Tables}
 use Rattle.answer_laws.specs.Meant.{Meaning, meaning_of, is_whole, all_told, finishes, told_node, is_told}

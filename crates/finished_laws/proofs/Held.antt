@@ -4,7 +4,7 @@ use Rattle.std.proofs.Common.{ℕ, zero, suc, ◌≡◌, ◌⊎◌, inl, inr, re
 use Rattle.std.proofs.lemmas.Bool.{false≢true}
 use Rattle.plan_props.specs.Meets as rows_of
 use Rattle.plan_props.specs.Meets.{Row}
-use Rattle.physical_plan.specs.NodeRows.{Holds, HoldsIn}
+use Rattle.node_laws.specs.NodeRows.{Holds, HoldsIn}
 use Rattle.logical_plan.specs.Items.{Cells, Item, rows, concat}
 use Rattle.content_laws.specs.Bags.{SameBag}
 use Rattle.sort_laws.proofs.Identity.{items, items_exact}

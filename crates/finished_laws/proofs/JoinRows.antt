@@ -10,7 +10,7 @@ use Rattle.dfx_value.specs.declared.value.Value.TheVariants as value
 use Rattle.dfx_value.specs.Order.{value_cmp}
 use Rattle.dfx_value.specs.Rows.{cell}
 use Rattle.plan_props.specs.Meets as meets
-use Rattle.physical_plan.specs.NodeRows.{Holds, InnerRow, Matches}
+use Rattle.node_laws.specs.NodeRows.{Holds, InnerRow, Matches}
 use Rattle.node_laws.specs.Nodes.{JoinRow}
 use Rattle.scalar_exprs.specs.declared.expr.Expr.{Expr}
 use Rattle.scalar_exprs.specs.Eval.{Outcome, eval}

@@ -6,9 +6,10 @@ use Rattle.plan_props.specs.Meets.{Hashing, IsHash}
 use Rattle.physical_plan.specs.declared.plan.Plan.{Plan}
 use Rattle.physical_plan.specs.declared.plan.Plan.TheVariants as plan
 use Rattle.physical_plan.specs.declared.plan.Plan.TheVariants.{rolls-Limit}
-use Rattle.physical_plan.specs.Counts.{counts_of}
+use Rattle.plan_shape.specs.Counts.{counts_of}
 use Rattle.physical_plan.specs.Properties.{props}
-use Rattle.physical_plan.specs.Planned.{everywhere, IsFinished}
+use Rattle.physical_plan.specs.Everywhere.{everywhere}
+use Rattle.planned_laws.specs.Finished.{IsFinished}
 use Rattle.physical_build.specs.Build.{build}
 use Rattle.logical_plan.specs.declared.query.Query.{Query}
 use Rattle.logical_plan.specs.Body.{Tables}

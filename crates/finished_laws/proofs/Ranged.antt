@@ -1,7 +1,7 @@
 -- Rows of a width, by their test, and those of a table in its files.
 use Rattle.std.proofs.Common.{ℕ, ◌%◌, ◌≡◌, ◌==◌, inl, inr, sym, ap, ◌∙◌, subst, List, [], ◌∷◌, length, get_or, map, filter, true}
-use Rattle.physical_plan.specs.NodeRows.{Holds}
-use Rattle.physical_plan.specs.Layout.{numbers}
+use Rattle.node_laws.specs.NodeRows.{Holds}
+use Rattle.physical_plan.specs.Numbers.{numbers}
 use Rattle.logical_plan.specs.Items.{Cells, Item, rows, concat}
 use Rattle.tree_laws.specs.Trees.{in_files}
 use Rattle.plan_tasks.specs.Trees.{dealt_files}

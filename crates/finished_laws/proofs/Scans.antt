@@ -15,11 +15,10 @@ use Rattle.physical_plan.specs.declared.plan.Plan.TheVariants.{rolls-Scan, rolls
 use Rattle.physical_plan.specs.declared.plan.Plan.TheOpen.{Plan-F}
 use Rattle.physical_plan.specs.declared.plan.Plan.TheViews.{roll-Plan}
 use Rattle.physical_plan.specs.declared.plan.Plan.TheFolds.{map-Plan, ind-Plan}
-use Rattle.physical_plan.specs.Layout.{numbers}
-use Rattle.physical_plan.specs.Plain.{sorted_by}
-use Rattle.physical_plan.specs.Planned.{Test, node_holds, everywhere, all_true, bare_node, erased}
+use Rattle.physical_plan.specs.Numbers.{numbers}
+use Rattle.physical_build.specs.Build.{sorted_by, Built, node, built_of, body_plan, two_phases}
+use Rattle.physical_plan.specs.Everywhere.{Test, node_holds, everywhere, all_true, bare_node, erased}
 use Rattle.answer_laws.specs.Meant.{files_of}
-use Rattle.physical_build.specs.Build.{Built, node, built_of, body_plan, two_phases}
 use Rattle.answer_laws.proofs.Meaning.{both_true}
 use Rattle.answer_laws.proofs.Built.{erased_rolled}
 use Rattle.finished_laws.specs.Sound.{are_wide, scans_fit}

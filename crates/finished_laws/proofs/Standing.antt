@@ -1,11 +1,10 @@
 -- What nodes declare stands of what their partitions would give.
 use Rattle.std.specs.Prelude.{IsSorted}
-use Rattle.std.specs.List.{filter_map}
+use Rattle.std.specs.List.{filter_map, AllPass, list_all, sum_by, flat_map}
 use Rattle.std.proofs.Common.{ℕ, zero, suc, ◌+◌, ◌%◌, ◌≡◌, ◌==◌, inl, inr, refl, sym, ap, ◌∙◌, subst, List, [], ◌∷◌, ◌++◌, length, get_or, map, sum, Bool, true, false, ◌&&◌, Option, Ok, Err, cond, arith}
 use Rattle.std.proofs.lemmas.Bool.{false≢true, cases_lt}
 use Rattle.std.proofs.lemmas.List.{append-nil}
 use Rattle.std.proofs.lemmas.List.Sums.{list_all-from_AllPass}
-use Rattle.std.specs.List.{AllPass, list_all, sum_by, flat_map}
 use Rattle.dfx_value.specs.Rows.{row_cmp}
 use Rattle.dfx_value.specs.declared.kind.Kind.{Kind}
 use Rattle.dfx_value.specs.declared.op.JoinKind.{JoinKind}
@@ -23,10 +22,11 @@ use Rattle.physical_plan.specs.declared.plan.Plan.TheOpen.{Plan-F}
 use Rattle.physical_plan.specs.declared.plan.Plan.TheViews.{roll-Plan}
 use Rattle.physical_plan.specs.declared.plan.Plan.TheFolds.{fold-roll-Plan, map-Plan}
 use Rattle.physical_plan.specs.declared.properties.Declared.{Declared}
-use Rattle.physical_plan.specs.Layout.{numbers}
-use Rattle.physical_plan.specs.NodeRows.{Holds, Dealt, by_row, kept, values, united_parts}
+use Rattle.physical_plan.specs.Numbers.{numbers}
+use Rattle.node_laws.specs.NodeRows.{Holds, Dealt, by_row, kept, values, united_parts}
 use Rattle.physical_plan.specs.Properties.{repartitioned, state_width, first_width, counts, scattered, partitions, declared, declared_of, or_single, props, left_keys, right_keys}
-use Rattle.physical_plan.specs.Planned.{node_holds, all_true, everywhere, group_need}
+use Rattle.physical_plan.specs.Everywhere.{node_holds, all_true, everywhere}
+use Rattle.physical_plan.specs.Needs.{group_need}
 use Rattle.logical_plan.specs.Items.{Cells, Item, rows, concat, filter_items, project_items}
 use Rattle.logical_plan.specs.Joins.{joined}
 use Rattle.logical_plan.specs.Body.{Tables}

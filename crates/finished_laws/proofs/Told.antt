@@ -5,7 +5,8 @@ use Rattle.physical_plan.specs.declared.plan.Plan.{Plan}
 use Rattle.physical_plan.specs.declared.plan.Plan.TheOpen.{Plan-F}
 use Rattle.physical_plan.specs.declared.plan.Plan.TheViews.{roll-Plan}
 use Rattle.physical_plan.specs.declared.plan.Plan.TheFolds.{para-roll-Plan, map-Plan, ind-Plan}
-use Rattle.physical_plan.specs.Planned.{Test, node_holds, everywhere, all_true, spread_needs, order_needs}
+use Rattle.physical_plan.specs.Everywhere.{Test, node_holds, everywhere, all_true}
+use Rattle.physical_plan.specs.Needs.{spread_needs, order_needs}
 use Rattle.logical_plan.specs.Items.{rows}
 use Rattle.logical_plan.specs.Body.{Tables}
 use Rattle.answer_laws.specs.Meant.{meaning_of, meant, is_whole, all_told, finishes, told_node, is_told}

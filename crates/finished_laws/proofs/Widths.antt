@@ -9,9 +9,9 @@ use Rattle.physical_plan.specs.declared.plan.Plan.TheOpen.{Plan-F}
 use Rattle.physical_plan.specs.declared.plan.Plan.TheViews.{roll-Plan}
 use Rattle.physical_plan.specs.declared.plan.Plan.TheFolds.{fold-roll-Plan, map-Plan, ind-Plan}
 use Rattle.physical_plan.specs.declared.properties.Declared.{Declared}
-use Rattle.physical_plan.specs.Layout.{numbers}
+use Rattle.physical_plan.specs.Numbers.{numbers}
 use Rattle.physical_plan.specs.Properties.{declared, declared_of, first_width}
-use Rattle.physical_plan.specs.Planned.{node_holds, everywhere, all_true}
+use Rattle.physical_plan.specs.Everywhere.{node_holds, everywhere, all_true}
 use Rattle.scalar_exprs.specs.Kinds.{kind_of, call_kind}
 use Rattle.logical_plan.specs.Items.{Cells, rows}
 use Rattle.logical_plan.specs.Body.{Tables, kind_or_text, key_kinds, call_kinds}

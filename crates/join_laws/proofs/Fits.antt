@@ -18,7 +18,7 @@ use Rattle.scalar_exprs.specs.Truth.{is_null}
 use Rattle.logical_plan.specs.Items.{Cells, Item, rows}
 use Rattle.logical_plan.specs.Joins.{cells_match, keys_match, nulls}
 use Rattle.plan_props.specs.Meets.{Row, Each, part, is_null as is_none}
-use Rattle.physical_plan.specs.NodeRows.{Holds, Matches, InnerRow, Joined}
+use Rattle.node_laws.specs.NodeRows.{Holds, Matches, InnerRow, Joined}
 use Rattle.node_laws.specs.Nodes.{JoinRow}
 use Rattle.content_laws.specs.Bags.{row_parts}
 use Rattle.content_laws.proofs.Items.{length-row_parts, row_parts_at}

@@ -10,7 +10,7 @@ ghost use Rattle.logical_plan.specs.Items.{Cells, Item, rows, faults};
 ghost use Rattle.logical_plan.specs.Joins.{keys_match, residual, left_pairs, right_pairs, left_alone, joined};
 ghost use Rattle.plan_props.specs.Meets.{Hashing, IsHash, Places};
 ghost use Rattle.physical_plan.specs.Properties.{left_keys, right_keys};
-ghost use Rattle.physical_plan.specs.NodeRows.{Joined};
+ghost use Rattle.node_laws.specs.NodeRows.{Joined};
 ghost use Rattle.physical_plan.specs.declared.plan.Plan.TheOpen.{Plan-F as Node};
 ghost use Rattle.physical_plan.specs.declared.properties.Declared.{Declared as Said};
 ghost use Rattle.node_laws.specs.Nodes.{JoinRow, NodeGives};

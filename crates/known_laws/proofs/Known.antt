@@ -8,7 +8,7 @@ use Rattle.dfx_value.specs.Kinds.{are_of}
 use Rattle.dfx_value.specs.KindedRows.{all_are}
 use Rattle.dfx_value.specs.declared.kind.Kind.{Kind}
 use Rattle.dfx_value.proofs.BatchLemmas.{length-are_of}
-use Rattle.physical_plan.specs.Planned.{all_true}
+use Rattle.physical_plan.specs.Everywhere.{all_true}
 use Rattle.logical_plan.specs.declared.plan.Logical.{Logical}
 use Rattle.logical_plan.specs.declared.plan.Logical.TheOpen.{Logical-F}
 use Rattle.logical_plan.specs.declared.plan.Logical.TheViews.{roll-Logical}

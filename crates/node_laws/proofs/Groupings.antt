@@ -12,11 +12,11 @@ use Rattle.plan_props.specs.Meets.{Row, Hashing, Each, PairsHold, Agree, Hashed,
 use Rattle.plan_props.proofs.Sound.{each_map, each_all, each_within}
 use Rattle.physical_plan.specs.declared.properties.Declared.{Declared}
 use Rattle.physical_plan.specs.Properties.{grouped, place_from, place_in, kept_columns, partitioning_renamed, pairs_renamed}
-use Rattle.physical_plan.specs.Planned.{group_need}
+use Rattle.physical_plan.specs.Needs.{group_need}
 use Rattle.node_laws.specs.Rows.{GroupRow, PartGroups, AnswerRow, Groups}
 use Rattle.node_laws.proofs.Weavings.{each_has}
-use Rattle.node_laws.proofs.Dealings.{unordered}
-use Rattle.node_laws.proofs.Moves.{Moves, hashed_moved, pairs_moved, agree_moved, parts_renamed}
+use Rattle.node_laws.proofs.Others.{unordered}
+use Rattle.node_laws.proofs.Meetings.{Moves, hashed_moved, pairs_moved, agree_moved, parts_renamed}
 
 -- the key values stand at the places of their columns
 placed : (keys : List ℕ) (r more : Row) (at c d : ℕ) → place_from at (kept_columns keys) c ≡ Some d → (k : ℕ) × (d ≡ at + k) × (cell (cells_at keys r ++ more) k ≡ cell r c)

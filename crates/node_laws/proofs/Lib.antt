@@ -1,7 +1,9 @@
 pub mod Weavings
+pub mod Meetings
+pub mod Filters
+pub mod Others
 pub mod Cuts
 pub mod Dealings
-pub mod Moves
 pub mod Groupings
 pub mod Paddings
 pub mod Ranges

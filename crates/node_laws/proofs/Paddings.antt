@@ -1,43 +1,25 @@
 -- RIGHT and FULL joins.
 use Rattle.std.specs.Prelude.{◌%◌}
-use Rattle.std.proofs.Common.{ℕ, zero, suc, ◌≡◌, ◌+◌, inl, inr, refl, sym, ap, ◌∙◌, subst, List, [], ◌∷◌, ◌++◌, length, arith}
+use Rattle.std.proofs.Common.{ℕ, ◌≡◌, ◌+◌, inl, inr, refl, sym, ap, ◌∙◌, subst, List, [], ◌∷◌, ◌++◌, length}
 use Rattle.std.proofs.lemmas.List.{length-replicate}
 use Rattle.dfx_value.specs.declared.value.Value.{Value}
 use Rattle.dfx_value.specs.declared.value.Value.TheVariants as value
 use Rattle.dfx_value.specs.Rows.{cell}
 use Rattle.dfx_value.specs.declared.op.JoinKind.TheVariants.{Right, Full}
 use Rattle.plan_props.specs.declared.properties.Partitioning.TheVariants as parting
-use Rattle.plan_props.specs.Meets.{Row, Hashing, Equals, PairsHold, Agree, cells_at, Each, Hashed, part, Meets, is_null}
+use Rattle.plan_props.specs.Meets.{Row, Hashing, PairsHold, Agree, cells_at, Each, Hashed, part, Meets}
 use Rattle.plan_props.proofs.Sound.{each_map, each_all}
 use Rattle.physical_plan.specs.declared.properties.Declared.{Declared}
 use Rattle.physical_plan.specs.Properties.{or_single, parts, hash_joined, right_keys, shifted, shifted_columns}
-use Rattle.physical_plan.specs.NodeRows.{Holds, nulls, Joined}
+use Rattle.node_laws.specs.NodeRows.{Holds, nulls, Joined}
 use Rattle.node_laws.specs.Rows.{RightRow, FullRow, RightSides}
 use Rattle.node_laws.proofs.Weavings.{each_has}
-use Rattle.node_laws.proofs.Dealings.{single_parts, single_hashed, unordered}
-
-cell_behind : (l x : Row) (w c : ℕ) → length l ≡ w → cell (l ++ x) (w + c) ≡ cell x c
-cell_behind [] x w c e = let q : w + c ≡ c = omega arith in ap (cell x) q
-cell_behind (v ∷ l) x zero c e = cc
-cell_behind (v ∷ l) x (suc w) c e = let q : suc w + c ≡ suc (w + c) = omega arith in ap (cell (v ∷ l ++ x)) q ∙ cell_behind l x w c (omega arith)
+use Rattle.node_laws.proofs.Others.{single_parts, single_hashed, unordered, cell_right, right_pairs, right_agree}
 
 module _ (w : ℕ) (l x : Row) (wide : length l ≡ w) where
   columns_behind : (cs : List ℕ) → cells_at (shifted_columns w cs) (l ++ x) ≡ cells_at cs x
   columns_behind [] = refl
-  columns_behind (c ∷ cs) = ap (λ (v : Value). v ∷ cells_at (shifted_columns w cs) (l ++ x)) (cell_behind l x w c wide) ∙ ap (λ (vs : List Value). cell x c ∷ vs) (columns_behind cs)
-
-  pairs_behind : (ps : List (ℕ × ℕ)) → PairsHold ps x → PairsHold (shifted w ps) (l ++ x)
-  pairs_behind [] i = tt
-  pairs_behind (p ∷ ps) i =
-      let a = cell_behind l x w p.0 wide in
-      let b = cell_behind l x w p.1 wide in
-      ((subst (λ (v : Value). Equals v (cell (l ++ x) (w + p.1))) (sym a) (subst (λ (v : Value). Equals (cell x p.0) v) (sym b) i.0.0), ap is_null a ∙ i.0.1), pairs_behind ps i.1)
-
-module _ (w : ℕ) (l x l2 x2 : Row) (wide : length l ≡ w) (wide2 : length l2 ≡ w) where
-  agree_behind : (cs : List ℕ) → Agree cs x x2 → Agree (shifted_columns w cs) (l ++ x) (l2 ++ x2)
-  agree_behind [] i = tt
-  agree_behind (c ∷ cs) i =
-      (subst (λ (v : Value). Equals v (cell (l2 ++ x2) (w + c))) (sym (cell_behind l x w c wide)) (subst (λ (v : Value). Equals (cell x c) v) (sym (cell_behind l2 x2 w c wide2)) i.0), agree_behind cs i.1)
+  columns_behind (c ∷ cs) = ap (λ (v : Value). v ∷ cells_at (shifted_columns w cs) (l ++ x)) (cell_right l x w c wide) ∙ ap (λ (vs : List Value). cell x c ∷ vs) (columns_behind cs)
 
 -- a row that ends with a right row
 abbrev Ends : ℕ → List Row → Row → Type 0
@@ -56,12 +38,12 @@ module _ (h : Hashing) (keys : List (ℕ × ℕ)) (d e : Declared) (lefts rights
       ∙ each_has (λ r. h (cells_at (right_keys keys) r) % parts d ≡ j) (part rights j) a.1 (sides.places.place j) a.2)
 
   ends_same : (j : ℕ) (s : Row) → Ends d.width (part rights j) s → PairsHold (shifted d.width e.props.same) s
-  ends_same j s a = subst (PairsHold (shifted d.width e.props.same)) (sym a.4) (pairs_behind d.width a.0 a.1 a.3 e.props.same (each_has (PairsHold e.props.same) (part rights j) a.1 (mr.same j) a.2))
+  ends_same j s a = subst (PairsHold (shifted d.width e.props.same)) (sym a.4) (right_pairs d.width a.0 a.1 a.3 e.props.same (each_has (PairsHold e.props.same) (part rights j) a.1 (mr.same j) a.2))
 
   ends_agree : (i j : ℕ) (s t : Row) → Ends d.width (part rights i) s → Ends d.width (part rights j) t → Agree (shifted_columns d.width e.props.constants) s t
   ends_agree i j s t a b =
       subst (λ (u : Row). Agree (shifted_columns d.width e.props.constants) u t) (sym a.4) (subst (λ (u : Row). Agree (shifted_columns d.width e.props.constants) (a.0 ++ a.1) u) (sym b.4)
-      (agree_behind d.width a.0 a.1 b.0 b.1 a.3 b.3 e.props.constants
+      (right_agree d.width a.0 a.1 b.0 b.1 a.3 b.3 e.props.constants
       (each_has (Agree e.props.constants a.1) (part rights j) b.1 (each_has (λ r. Each (Agree e.props.constants r) (part rights j)) (part rights i) a.1 (mr.constant i j) a.2) b.2)))
 
   pub right_meets : Meets h (hash_joined Right keys d e).props outs

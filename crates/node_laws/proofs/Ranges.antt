@@ -4,7 +4,7 @@ use Rattle.std.proofs.Common.{ℕ, suc, ◌≡◌, ◌<◌, ◌≤◌, ◌+◌, 
 use Rattle.scalar_exprs.specs.declared.expr.Expr.{Expr}
 use Rattle.physical_plan.specs.Facts.{fact_of}
 use Rattle.physical_plan.specs.Properties.{Renaming, is_column, place_from, literals_from, pair_before, pairs_renamed, shifted, shifted_columns, joined_pairs, left_keys, right_keys}
-use Rattle.physical_plan.specs.Joins.{Within, PairsWithin}
+use Rattle.node_laws.specs.Joins.{Within, PairsWithin}
 
 pub within_append : (w : ℕ) (cs ds : List ℕ) → Within w cs → Within w ds → Within w (cs ++ ds)
 within_append w [] ds h i = i

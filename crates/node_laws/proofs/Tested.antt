@@ -4,7 +4,7 @@ use Rattle.std.proofs.Common.{ℕ, ◌≡◌, refl, eqb, subst, true, ◌&&◌, 
 use Rattle.std.proofs.lemmas.Bool.{ltb-true, eqb-true}
 use Rattle.physical_plan.specs.declared.plan.Plan.TheOpen.{Plan-F}
 use Rattle.physical_plan.specs.Facts.{fact_of}
-use Rattle.physical_plan.specs.Joins.{Within, PairsWithin}
+use Rattle.node_laws.specs.Joins.{Within, PairsWithin}
 use Rattle.physical_plan.specs.Properties.{declared_of, first_width, left_keys, right_keys}
 use Rattle.physical_plan.proofs.Everywhere.{and_parts}
 use Rattle.node_laws.specs.Nodes.{Input, PlanInput, plans_of, inputs_of, declared_inputs, HaveWidth, InRange}

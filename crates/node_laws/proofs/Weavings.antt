@@ -12,7 +12,7 @@ use Rattle.plan_props.specs.Meets.{Row, Hashing, Each, NotBefore, InOrder, AllIn
 use Rattle.plan_props.proofs.Sound.{each_map, each_all}
 use Rattle.physical_plan.specs.declared.properties.Declared.{Declared}
 use Rattle.physical_plan.specs.Properties.{merged}
-use Rattle.physical_plan.specs.NodeRows.{Holds, HoldsIn}
+use Rattle.node_laws.specs.NodeRows.{Holds, HoldsIn}
 use Rattle.node_laws.specs.Weaves.{Interleaves, NotBeforeFirst, Merges}
 
 pub each_has : (P : Row → Type 0) (rs : List Row) (r : Row) → Each P rs → Holds rs r → P r

@@ -16,17 +16,18 @@ use Rattle.physical_plan.specs.declared.plan.Plan.TheFolds.{map-Plan, fold-roll-
 use Rattle.physical_plan.specs.declared.properties.Declared.{Declared}
 use Rattle.physical_plan.specs.Properties.{parts, scattered, filtered, projected, grouped, merged, repartitioned, hash_joined, united, first_width, place_in, kept_columns, item_columns, left_keys, right_keys, state_width, declared, declared_of, props}
 use Rattle.physical_plan.specs.Facts.{fact_of}
-use Rattle.physical_plan.specs.Planned.{kids, group_need, spread_needs, order_needs}
-use Rattle.physical_plan.specs.Joins.{AllMeet, Sides, Within, PairsWithin}
-use Rattle.physical_plan.specs.NodeRows.{by_row, kept, values, Holds, HoldsIn, Joined, united_parts}
-use Rattle.physical_plan.proofs.Filters.{filter_meets, project_meets}
-use Rattle.physical_plan.proofs.Others.{sort_meets, repartition_meets, union_meets, left_join_meets, inner_join_meets}
+use Rattle.physical_plan.specs.Everywhere.{kids}
+use Rattle.physical_plan.specs.Needs.{group_need, spread_needs, order_needs}
+use Rattle.node_laws.specs.Joins.{AllMeet, Sides, Within, PairsWithin}
+use Rattle.node_laws.specs.NodeRows.{by_row, kept, values, Holds, HoldsIn, Joined, united_parts}
+use Rattle.node_laws.proofs.Filters.{filter_meets, project_meets}
+use Rattle.node_laws.proofs.Others.{sort_meets, repartition_meets, union_meets, left_join_meets, inner_join_meets, single_parts, single_hashed, unordered}
 use Rattle.node_laws.specs.Weaves.{Interleaves}
 use Rattle.node_laws.specs.Rows.{Begun, RightSides}
 use Rattle.node_laws.specs.Nodes.{IsWide, AllWide, Stands, Input, PlanInput, plans_of, inputs_of, AllStand, declared_inputs, rows_of, HaveWidth, JoinRow, Exchanges, NodeGives, NodeNeeds, InRange}
 use Rattle.node_laws.proofs.Weavings.{woven_each, merges_interleave, merge_meets}
 use Rattle.node_laws.proofs.Cuts.{stretches_meet, stretch_each, begun_meets, begun_each}
-use Rattle.node_laws.proofs.Dealings.{single_parts, single_hashed, unordered, deal_meets, coalesce_meets}
+use Rattle.node_laws.proofs.Dealings.{deal_meets, coalesce_meets}
 use Rattle.node_laws.proofs.Groupings.{partial_meets, final_meets}
 use Rattle.node_laws.proofs.Paddings.{right_meets, full_meets}
 use Rattle.node_laws.proofs.Ranges.{within_append, pairs_within_append, within_more, pairs_within_more, within_shifted, pairs_within_shifted, pairs_within_joined, place_below, within_renamed, pairs_within_renamed, literals_below}

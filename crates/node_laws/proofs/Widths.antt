@@ -9,8 +9,8 @@ use Rattle.scalar_exprs.specs.declared.expr.Expr.{Expr}
 use Rattle.scalar_exprs.specs.Eval.{Outcome, eval}
 use Rattle.plan_props.specs.Meets.{Row, Each, part}
 use Rattle.plan_props.proofs.Sound.{each_map}
-use Rattle.physical_plan.specs.NodeRows.{HoldsIn, by_row, is_yes, kept, values, value_before, InnerRow, LeftRow, nulls, Joined}
-use Rattle.physical_plan.proofs.Meetings.{part_map}
+use Rattle.node_laws.specs.NodeRows.{HoldsIn, by_row, is_yes, kept, values, value_before, InnerRow, LeftRow, nulls, Joined}
+use Rattle.node_laws.proofs.Meetings.{part_map}
 use Rattle.node_laws.specs.Rows.{RightRow, FullRow}
 use Rattle.node_laws.specs.Nodes.{IsWide, AllWide, JoinRow}
 use Rattle.node_laws.proofs.Weavings.{each_has}

@@ -4,7 +4,7 @@ use Rattle.physical_plan.specs.declared.plan.Plan.{Plan}
 use Rattle.physical_plan.specs.declared.plan.Plan.TheOpen.{Plan-F}
 use Rattle.physical_plan.specs.Facts.{fact_of}
 use Rattle.physical_plan.specs.Properties.{declared_of, first_width, left_keys, right_keys}
-use Rattle.physical_plan.specs.Planned.{Test}
+use Rattle.physical_plan.specs.Everywhere.{Test}
 
 -- how many columns the rows of a plan have
 abbrev pub width : Plan → ℕ

@@ -1,15 +1,18 @@
 ghost use Rattle.std.specs.Prelude.{ℕ, ◌≡◌, true, List, [], ◌∷◌, length};
+ghost use Rattle.scalar_exprs.specs.declared.expr.Expr.{Expr as AnExpr};
 ghost use Rattle.dfx_value.specs.declared.rows.SortKey.{SortKey as Key};
-ghost use Rattle.dfx_value.specs.declared.op.JoinKind.TheVariants.{Right as RightJoin, Full as FullJoin};
-ghost use Rattle.plan_props.specs.declared.properties.Partitioning.TheVariants.{RoundRobin as ByTurns};
+ghost use Rattle.dfx_value.specs.declared.op.JoinKind.TheVariants.{Inner as InnerJoin, Left as LeftJoin, Right as RightJoin, Full as FullJoin};
+ghost use Rattle.plan_props.specs.declared.properties.Partitioning.TheVariants.{Hash as ByHash, RoundRobin as ByTurns};
 ghost use Rattle.plan_props.specs.Meets.{Row, Hashing, IsHash, Each, Meets, Delivers, InOrder, AllInOrder};
 ghost use Rattle.physical_plan.specs.declared.plan.Plan.TheOpen.{Plan-F as Node};
 ghost use Rattle.physical_plan.specs.declared.plan.Plan.TheViews.{roll-Plan};
 ghost use Rattle.physical_plan.specs.declared.plan.Plan.TheFolds.{map-Plan};
 ghost use Rattle.physical_plan.specs.declared.properties.Declared.{Declared as Said};
-ghost use Rattle.physical_plan.specs.Properties.{grouped, merged, repartitioned, hash_joined, declared, declared_of};
-ghost use Rattle.physical_plan.specs.Planned.{kids, group_need, spread_needs, order_needs};
-ghost use Rattle.physical_plan.specs.NodeRows.{Dealt, HoldsIn, Joined};
+ghost use Rattle.physical_plan.specs.Properties.{filtered, projected, grouped, sorted, merged, repartitioned, united, hash_joined, declared, declared_of};
+ghost use Rattle.physical_plan.specs.Everywhere.{kids};
+ghost use Rattle.physical_plan.specs.Needs.{group_need, spread_needs, order_needs};
+ghost use Rattle.node_laws.specs.NodeRows.{by_row, kept, values, Arranged, Dealt, Exchanged, HoldsIn, Joined, InnerRow, LeftRow, united_parts};
+ghost use Rattle.node_laws.specs.Joins.{AllMeet, Sides};
 ghost use Rattle.node_laws.specs.Weaves.{Merges};
 ghost use Rattle.node_laws.specs.Nodes.{Stands, Input, PlanInput, AllStand, NodeNeeds, NodeGives, InRange, plans_of, inputs_of};
 ghost use Rattle.node_laws.specs.Tests.{needs_in_range};
@@ -20,6 +23,22 @@ ghost use Rattle.node_laws.specs.Rows.{Stretches, Begun, PartGroups, Groups, Rig
 /// Where a node needs something of its input, that is a premise: the order of a Merge, the distribution of groups, the sides of a join.
 /// Limit declares what its input does, and so do the rows that any node gave so far.
 pub fn node_laws()
+    ensures filter { (h : Hashing) (test : AnExpr) (d : Said) (parts : List (List Row))
+        → Meets h d.props parts → Meets h (filtered test d).props (by_row (kept test) parts) }
+    ensures project { (h : Hashing) (es : List AnExpr) (d : Said) (parts : List (List Row))
+        → Meets h d.props parts → Meets h (projected es d).props (by_row (values es) parts) }
+    ensures sort { (h : Hashing) (keys : List Key) (d : Said) (ins outs : List (List Row))
+        → Arranged keys ins outs → Meets h d.props ins → Meets h (sorted keys d).props outs }
+    ensures hash { (h : Hashing) (cs : List ℕ) (n : ℕ) (d : Said) (ins outs : List (List Row))
+        → Exchanged h cs n ins outs → Meets h d.props ins → Meets h (repartitioned (ByHash cs n) d).props outs }
+    ensures union { (h : Hashing) (ds : List Said) (ps : List (List (List Row)))
+        → AllMeet h ds ps → Meets h (united ds).props (united_parts ps) }
+    ensures left { (h : Hashing) (keys : List (ℕ × ℕ)) (d e : Said) (lefts rights outs : List (List Row))
+        → Sides h keys d lefts → Meets h d.props lefts → Joined (LeftRow keys e.width) lefts rights outs
+        → Meets h (hash_joined LeftJoin keys d e).props outs }
+    ensures inner { (h : Hashing) (keys : List (ℕ × ℕ)) (d e : Said) (lefts rights outs : List (List Row))
+        → Sides h keys d lefts → Meets h d.props lefts → Meets h e.props rights → Joined (InnerRow keys) lefts rights outs
+        → Meets h (hash_joined InnerJoin keys d e).props outs }
     ensures limit { (h : Hashing) (d : Said) (ins outs : List (List Row))
         → Stretches ins outs → Meets h d.props ins → Meets h d.props outs }
     ensures begun { (h : Hashing) (d : Said) (whole outs : List (List Row))

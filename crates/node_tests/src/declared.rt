@@ -4,9 +4,8 @@ use crate::nodes::{
     scan, sort, union,
 };
 use dfx_value::{JoinKind, SortKey};
-use physical_plan::{
-    Plan, StageTask, copy_exprs, copy_rest, left_keys, partitions, props, right_keys, stages,
-};
+use physical_plan::{Plan, copy_exprs, copy_rest, left_keys, partitions, props, right_keys};
+use plan_shape::{StageTask, stages};
 use plan_props::{Partitioning, Props};
 use scalar_exprs::Expr;
 use std::alloc::Global;

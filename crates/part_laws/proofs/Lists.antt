@@ -5,7 +5,7 @@ use Rattle.std.proofs.lemmas.List.Sums.{sum_by-append}
 use Rattle.dfx_value.specs.Kinds.{are_of}
 use Rattle.dfx_value.specs.declared.op.JoinKind.{JoinKind}
 use Rattle.scalar_exprs.specs.declared.expr.Expr.{Expr}
-use Rattle.physical_plan.specs.Layout.{numbers}
+use Rattle.physical_plan.specs.Numbers.{numbers}
 use Rattle.logical_plan.specs.Items.{Item, rows, concat}
 use Rattle.logical_plan.specs.Groups.{aggregated}
 use Rattle.logical_plan.specs.Joins.{joined}

@@ -11,7 +11,7 @@ use Rattle.scalar_exprs.specs.Groups.{key_list, same_keys, firsts}
 use Rattle.logical_plan.specs.Items.{Cells, Item, rows, faults, of_rows, of_faults}
 use Rattle.logical_plan.specs.Groups.{alike, group_of, group_item, aggregated, distinct}
 use Rattle.phase_laws.specs.Phases.{IsApart}
-use Rattle.physical_plan.specs.Layout.{numbers}
+use Rattle.physical_plan.specs.Numbers.{numbers}
 use Rattle.phase_laws.proofs.Bags.{Each, each_more}
 use Rattle.phase_laws.proofs.Groups.{each-firsts}
 use Rattle.phase_laws.proofs.Items.{each_pass}

@@ -8,7 +8,7 @@ use Rattle.dfx_value.specs.declared.op.AggCall.{AggCall}
 use Rattle.logical_plan.specs.Items.{Item, rows, faults, concat}
 use Rattle.logical_plan.specs.Groups.{one_group, aggregated}
 use Rattle.phase_laws.specs.Phases.{AreApart, phase, phase_kinds, one_final, final}
-use Rattle.physical_plan.specs.Layout.{numbers}
+use Rattle.physical_plan.specs.Numbers.{numbers}
 use Rattle.content_laws.specs.Bags.{SameBag, together}
 use Rattle.phase_laws.proofs.Bags.{Each, bag_each}
 use Rattle.content_laws.proofs.Weights.{none_left}

@@ -12,7 +12,7 @@ use Rattle.logical_plan.specs.Groups.{alike}
 use Rattle.phase_laws.specs.Phases.{AreApart}
 use Rattle.content_laws.specs.Bags.{row_parts}
 use Rattle.plan_props.specs.Meets.{AllEqual, Each as EachRow, Gathers, Hashing, Delivers}
-use Rattle.physical_plan.specs.Planned.{group_need}
+use Rattle.physical_plan.specs.Needs.{group_need}
 use Rattle.phase_laws.proofs.Bags.{Each}
 use Rattle.content_laws.proofs.Items.{length-row_parts, row_parts_at}
 use Rattle.phase_laws.proofs.Distinct.{all_from}

@@ -11,7 +11,7 @@ use Rattle.scalar_exprs.specs.Groups.{key_list}
 use Rattle.logical_plan.specs.Items.{Cells, Item, rows, faults, of_faults, concat}
 use Rattle.logical_plan.specs.Groups.{alike, group_item, one_group, aggregated}
 use Rattle.phase_laws.specs.Phases.{IsApart, AreApart, grouped, phase_rows, phase, phase_kinds, final_item, one_final, final}
-use Rattle.physical_plan.specs.Layout.{numbers}
+use Rattle.physical_plan.specs.Numbers.{numbers}
 use Rattle.content_laws.specs.Bags.{SameBag, Alike, together}
 use Rattle.content_laws.proofs.Weights.{sum_by-map, none_left}
 use Rattle.content_laws.proofs.Items.{rows-append, faults-append, rows-concat, bag_rows, bag_faults, together_both, together_faults}

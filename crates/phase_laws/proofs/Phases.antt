@@ -16,7 +16,7 @@ use Rattle.logical_plan.specs.Items.{Cells, Item, all_values, as_item, concat}
 use Rattle.logical_plan.specs.Body.{kind_or_text}
 use Rattle.logical_plan.specs.Groups.{group_item}
 use Rattle.phase_laws.specs.Phases.{grouped, states_of, phase_row, phase_rows, states_kinds, phase_kinds, answers, final_item}
-use Rattle.physical_plan.specs.Layout.{numbers, numbers_from}
+use Rattle.physical_plan.specs.Numbers.{numbers, numbers_from}
 use Rattle.content_laws.specs.Bags.{SameBag}
 use Rattle.phase_laws.proofs.Bags.{Each, each_more, each-append, each_left, each_right, each-filter, bag_each}
 use Rattle.content_laws.proofs.Weights.{bag-filter, bag-map, bag_any}

@@ -19,7 +19,7 @@ use Rattle.logical_plan.specs.Items.{Item, rows, concat}
 use Rattle.logical_plan.specs.Groups.{alike, aggregated, distinct}
 use Rattle.phase_laws.specs.States.{capped}
 use Rattle.phase_laws.specs.Phases.{phase, phase_kinds, final, AreApart}
-use Rattle.physical_plan.specs.Layout.{numbers}
+use Rattle.physical_plan.specs.Numbers.{numbers}
 use Rattle.content_laws.specs.Bags.{together, SameBag, Alike}
 
 abbrev pub int : ℕ → Value

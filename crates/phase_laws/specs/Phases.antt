@@ -15,7 +15,7 @@ use Rattle.scalar_exprs.specs.Groups.{key_list, same_keys, firsts}
 use Rattle.logical_plan.specs.Body.{kind_or_text, key_kinds}
 use Rattle.logical_plan.specs.Groups.{alike}
 use Rattle.logical_plan.specs.Items.{Cells, Item, rows, faults, of_rows, of_faults, all_values, as_item, concat}
-use Rattle.physical_plan.specs.Layout.{numbers}
+use Rattle.physical_plan.specs.Numbers.{numbers}
 use Rattle.phase_laws.specs.States.{state_of, all_joined, cells_of, read, finished}
 use Rattle.physical_plan.specs.Properties.{state_width}
 

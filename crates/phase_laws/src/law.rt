@@ -13,8 +13,8 @@ ghost use Rattle.phase_laws.specs.States.{State, state_of, joined, read, cells_o
 ghost use Rattle.phase_laws.specs.Tables.{table, starts, with_row, state_row, with_cells_behind, finished_item};
 ghost use Rattle.phase_laws.specs.Phases.{phase_rows, grouped, final_item, phase, phase_kinds, final, second_phase, AreApart, segments_of};
 ghost use Rattle.plan_props.specs.Meets.{Hashing, Gathers, Delivers};
-ghost use Rattle.physical_plan.specs.Planned.{group_need};
-ghost use Rattle.physical_plan.specs.Layout.{numbers};
+ghost use Rattle.physical_plan.specs.Needs.{group_need};
+ghost use Rattle.physical_plan.specs.Numbers.{numbers};
 ghost use Rattle.tree_laws.specs.OperatorKinds.{closed_items};
 ghost use Rattle.content_laws.specs.Bags.{SameBag, together, Alike, row_parts};
 

@@ -8,7 +8,7 @@ use Rattle.logical_plan.specs.declared.plan.Logical.{Logical}
 use Rattle.logical_plan.specs.declared.plan.Logical.TheOpen.{Logical-F}
 use Rattle.logical_plan.specs.declared.plan.Logical.TheFolds.{fold-roll-Logical}
 use Rattle.logical_plan.specs.declared.plan.Logical.TheVariants.{Scan, Filter, Project, Join, Aggregate, Distinct, UnionAll, rolls-Scan, rolls-Filter, rolls-Project, rolls-Join, rolls-Aggregate, rolls-Distinct, rolls-UnionAll}
-use Rattle.physical_plan.specs.Layout.{numbers_from, numbers}
+use Rattle.physical_plan.specs.Numbers.{numbers_from, numbers}
 use Rattle.physical_build.specs.Build.{Built, node, built_of, first_or, first_of}
 
 pub built-Scan : (files : List ℕ) (n : ℕ) (table : ℕ) (kinds : List Kind) → built_of files n (Scan table kinds) ≡ node files n (Logical-F.Scan table kinds)

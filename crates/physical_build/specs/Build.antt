@@ -1,5 +1,5 @@
 -- Meaning: the plain physical plan of a query.
-use Rattle.std.specs.Prelude.{ℕ, ◌+◌, min, max, List, [], ◌∷◌, length, map, slice_index_or, Option, Some, None}
+use Rattle.std.specs.Prelude.{ℕ, ◌+◌, min, max, List, [], ◌∷◌, length, map, slice_index_or, Option, Some, None, ◌||◌, nat_lt, is_some, if◌then◌else◌}
 use Rattle.logical_plan.specs.declared.plan.Logical.{Logical}
 use Rattle.logical_plan.specs.declared.plan.Logical.TheOpen.{Logical-F}
 use Rattle.logical_plan.specs.declared.plan.Logical.TheFolds.{fold-Logical}
@@ -7,8 +7,8 @@ use Rattle.logical_plan.specs.declared.query.Query.{Query}
 use Rattle.dfx_value.specs.declared.op.AggCall.{AggCall}
 use Rattle.physical_plan.specs.declared.plan.Plan.{Plan}
 use Rattle.physical_plan.specs.declared.plan.Plan.TheVariants as plan
-use Rattle.physical_plan.specs.Layout.{numbers}
-pub use Rattle.physical_plan.specs.Plain.{sorted_by, limited}
+use Rattle.physical_plan.specs.Numbers.{numbers}
+use Rattle.dfx_value.specs.declared.rows.SortKey.{SortKey}
 
 -- a plan and how many columns it has
 pub record Built : Type 0 where
@@ -41,6 +41,17 @@ built_of files n = fold-Logical Built (node files n)
 -- the plan of a body, with the numbers of files of the tables, for n partitions
 abbrev pub body_plan : List ℕ → ℕ → Logical → Plan
 body_plan files n body = (built_of files n body).plan
+
+-- ---- the top of a query's plan
+
+-- a sort, where there are keys
+abbrev pub sorted_by : List SortKey → Plan → Plan
+sorted_by [] p = p
+sorted_by (k ∷ ks) p = plan.Sort p (k ∷ ks)
+
+-- a limit, where there is one or something is skipped
+abbrev pub limited : ℕ → Option ℕ → Plan → Plan
+limited skip fetch p = if is_some fetch || nat_lt 0 skip then plan.Limit p skip fetch else p
 
 abbrev pub build : Query → List ℕ → ℕ → Plan
 build q files n = limited q.offset q.limit (sorted_by q.order (body_plan files n q.body))

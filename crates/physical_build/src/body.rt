@@ -1,5 +1,5 @@
 ghost use Rattle.std.specs.Prelude.{◌≡◌, ◌+◌, IfOk, slice_index_or, [], None};
-ghost use Rattle.physical_plan.specs.Layout.{numbers_from, numbers};
+ghost use Rattle.physical_plan.specs.Numbers.{numbers_from, numbers};
 ghost use Rattle.physical_build.specs.Build as spec;
 
 use dfx_value::{NoMemory, SortKey};

@@ -1,16 +1,6 @@
 pub mod Nodes
 pub mod ExprFacts
 pub mod Everywhere
-pub mod Counts
-pub mod Shapes
-pub mod Meetings
-pub mod Filters
-pub mod Others
 pub mod Renamings
 pub mod Sums
 pub mod PartitionCounts
-pub mod Countings
-pub mod Tops
-pub mod Owners
-pub mod Ascending
-pub mod Weaker

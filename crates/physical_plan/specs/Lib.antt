@@ -1,8 +1,5 @@
 pub mod Facts
 pub mod Properties
-pub mod NodeRows
-pub mod Joins
-pub mod Layout
-pub mod Planned
-pub mod Plain
-pub mod Counts
+pub mod Everywhere
+pub mod Needs
+pub mod Numbers

@@ -1,18 +1,16 @@
-//! Physical plans: their nodes, what they declare of their rows, their stages, and the shape of their tasks.
+//! Physical plans: their nodes, copies of them, and what they declare of their rows.
 #![tactic(auto)]
 
 mod copy;
 mod counting;
 mod facts;
 mod joins;
-mod law;
 mod plan;
 mod properties;
 mod renaming;
 
 pub use copy::{copy_exprs, copy_plan, copy_rest};
-pub use counting::{partitions, stages};
+pub use counting::partitions;
 pub use joins::{left_keys, right_keys};
-pub use law::{node_laws, shape_law};
-pub use plan::{Plan, StageTask};
+pub use plan::Plan;
 pub use properties::props;

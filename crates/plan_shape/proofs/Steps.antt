@@ -3,7 +3,8 @@ use Rattle.std.proofs.Common.{ℕ, zero, suc, ◌+◌, ◌-◌, ◌<◌, ◌≤�
 use Rattle.std.specs.Prelude.{slice_index_or}
 use Rattle.std.proofs.lemmas.List.{drop_more}
 use Rattle.task_shape.specs.Shape.{TaskShape}
-use Rattle.physical_plan.specs.Layout.{Part, bare, numbers_from, beside, head_or, tail_of, tasks_of}
+use Rattle.plan_shape.specs.Layout.{Part, bare, beside, head_or, tail_of, tasks_of}
+use Rattle.physical_plan.specs.Numbers.{numbers_from}
 use Rattle.plan_shape.specs.Tasked.{tasked}
 
 pub numbers_step : (xs : List ℕ) (first at n : ℕ) → at < n → (xs ++ (first + at) ∷ []) ++ numbers_from (first + (at + 1)) (n - (at + 1)) ≡ xs ++ numbers_from (first + at) (n - at)

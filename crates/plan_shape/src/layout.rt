@@ -1,7 +1,8 @@
 //! A subtree's partitions and stages.
 
 ghost use Rattle.std.specs.Prelude.{◌≡◌, ◌+◌, ◌∷◌, [], IfOk, length, map};
-ghost use Rattle.physical_plan.specs.Layout as spec;
+ghost use Rattle.physical_plan.specs.Numbers.{numbers};
+ghost use Rattle.plan_shape.specs.Layout as spec;
 
 use crate::numbers::{numbers_from, small, sum_of};
 use crate::parts::{Part, all_consuming, bare_parts, beside, merger, readers};
@@ -21,7 +22,7 @@ pub(crate) struct Stage {
 }
 
 impl Model for Stage {
-    ghost use Rattle.physical_plan.specs.Layout.{Stage};
+    ghost use Rattle.plan_shape.specs.Layout.{Stage, Laid};
 
     ghost Value = { Stage };
 
@@ -56,7 +57,6 @@ pub(crate) struct Laid {
 }
 
 impl Model for Laid {
-    ghost use Rattle.physical_plan.specs.Layout.{Laid};
 
     ghost Value = { Laid };
 
@@ -92,7 +92,7 @@ fn opened(
 
 /// Each task sends to all channels.
 fn to_all(alloc: Global, parts: &[Part], count: u32) -> Result<Items<Items<u32>>, NoMemory>
-    ensures { IfOk result (λ ts. ts ≡ map (λ p. spec.numbers count) parts.now) }
+    ensures { IfOk result (λ ts. ts ≡ map (λ p. numbers count) parts.now) }
 {
     let mut all = Items::new(alloc);
     for _part in parts {
@@ -114,7 +114,7 @@ fn to_first(alloc: Global, parts: &[Part]) -> Result<Items<Items<u32>>, NoMemory
 
 /// Each task sends to the channel of its own number.
 fn to_own(alloc: Global, count: u32) -> Result<Items<Items<u32>>, NoMemory>
-    ensures { IfOk result (λ ts. ts ≡ map (λ c. c ∷ []) (spec.numbers count)) }
+    ensures { IfOk result (λ ts. ts ≡ map (λ c. c ∷ []) (numbers count)) }
 {
     let channels = numbers_from(alloc, 0, count)?;
     let mut all = Items::new(alloc);
@@ -216,7 +216,7 @@ fn lay_all(alloc: Global, plans: &[Plan], next: u32) -> Result<Laid, NoMemory>
 
 /// A subtree, from the number of the next stage that opens.
 #[cycle(lay)]
-#[tactic(auto, using(physical_plan::proofs::Nodes::layout_nodes))]
+#[tactic(auto, using(crate::proofs::Nodes::layout_nodes))]
 pub(crate) fn lay(alloc: Global, plan: &Plan, next: u32) -> Result<Laid, NoMemory>
     ensures { IfOk result (λ l. l ≡ spec.layout plan.now next) }
 {

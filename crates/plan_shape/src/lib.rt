@@ -1,11 +1,15 @@
-//! The shape of a plan's tasks, as code: who sends to whom, and who consumes memory.
+//! The stages of a plan and the shape of its tasks: who sends to whom, and who consumes memory.
 #![tactic(auto)]
 
+mod counting;
+mod law;
 mod layout;
 mod numbers;
 mod parts;
 mod shapes;
 mod tasks;
 
+pub use counting::{StageTask, stages};
+pub use law::shape_law;
 pub use shapes::{PlanShape, shape};
 pub use tasks::TaskShape;

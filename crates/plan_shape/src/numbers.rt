@@ -1,7 +1,7 @@
 //! Lists of numbers.
 
 ghost use Rattle.std.specs.Prelude.{◌≡◌, ◌+◌, IfOk};
-ghost use Rattle.physical_plan.specs.Layout as spec;
+ghost use Rattle.physical_plan.specs.Numbers.{numbers_from as so_many};
 
 use dfx_value::NoMemory;
 use sqlite_items::Items;
@@ -30,7 +30,7 @@ pub(crate) fn small(count: usize) -> Result<u32, NoMemory>
 /// So many numbers from one on, ascending.
 #[tactic(auto, using(crate::proofs::Steps::numbers_step, crate::proofs::Steps::numbers_end))]
 pub(crate) fn numbers_from(alloc: Global, first: u32, count: u32) -> Result<Items<u32>, NoMemory>
-    ensures { IfOk result (λ v. v ≡ spec.numbers_from first count) }
+    ensures { IfOk result (λ v. v ≡ so_many first count) }
 {
     let mut all = Items::new(alloc);
     for at in 0..count {

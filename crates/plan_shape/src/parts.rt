@@ -1,7 +1,7 @@
 //! The partitions of a node.
 
 ghost use Rattle.std.specs.Prelude.{◌≡◌, ◌≤◌, ◌++◌, IfOk, OnOk, length, map, drop, replicate};
-ghost use Rattle.physical_plan.specs.Layout as spec;
+ghost use Rattle.plan_shape.specs.Layout as spec;
 
 use crate::numbers::numbers_from;
 use dfx_value::NoMemory;
@@ -18,7 +18,7 @@ pub(crate) struct Part {
 }
 
 impl Model for Part {
-    ghost use Rattle.physical_plan.specs.Layout.{Part};
+    ghost use Rattle.plan_shape.specs.Layout.{Part};
 
     ghost Value = { Part };
 

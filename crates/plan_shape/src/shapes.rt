@@ -1,7 +1,7 @@
 //! The shape of a plan.
 
 ghost use Rattle.std.specs.Prelude.{◌≡◌, IfOk};
-ghost use Rattle.physical_plan.specs.Layout as spec;
+ghost use Rattle.plan_shape.specs.Layout as spec;
 
 use crate::layout::{Stage, stages_of};
 use crate::numbers::small;
@@ -82,7 +82,7 @@ fn shape_from(alloc: Global, stages: &[Stage]) -> Result<PlanShape, NoMemory>
 ///
 /// Stage 0 holds the root. Node before inputs, left to right, each Repartition, Coalesce and Merge opens the next stage below it,
 /// whose group has the number of that stage. A plan of 2^32 stages, partitions or consumers counts as want of memory.
-#[tactic(auto, unfolding(physical_plan::specs::Layout::shape))]
+#[tactic(auto, unfolding(crate::specs::Layout::shape))]
 pub fn shape(alloc: Global, plan: &Plan) -> Result<PlanShape, NoMemory>
     ensures { IfOk result (λ p. p ≡ spec.shape plan.now) }
 {

@@ -1,7 +1,7 @@
 //! The tasks of a stage.
 
 ghost use Rattle.std.specs.Prelude.{◌≡◌, ◌++◌, OnOk, IfOk, drop};
-ghost use Rattle.physical_plan.specs.Layout as spec;
+ghost use Rattle.plan_shape.specs.Layout as spec;
 ghost use Rattle.plan_shape.specs.Tasked.{tasked};
 
 use crate::numbers::{numbers_from, small, sum_of};

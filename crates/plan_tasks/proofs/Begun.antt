@@ -3,7 +3,8 @@ use Rattle.std.specs.Prelude.{◌%◌}
 use Rattle.std.proofs.Common.{ℕ, zero, suc, ◌+◌, ◌<◌, ◌≡◌, refl, sym, ap, ◌∙◌, subst, List, [], ◌∷◌, ◌++◌, length, get_or, true, Option, Some, None, is_some, arith}
 use Rattle.std.proofs.lemmas.Bool.{false≢true}
 use Rattle.physical_plan.specs.declared.plan.Plan.{Plan}
-use Rattle.physical_plan.specs.Layout.{Part, Stage, layout, numbers_from, tasks_of, tasks_from, spills_of, shape, group_of, head_or, tail_of}
+use Rattle.plan_shape.specs.Layout.{Part, Stage, layout, tasks_of, tasks_from, spills_of, shape, group_of, head_or, tail_of}
+use Rattle.physical_plan.specs.Numbers.{numbers_from}
 use Rattle.task_shape.specs.Shape.{TaskShape, names, has, no_task}
 use Rattle.logical_plan.specs.Items.{Cells}
 use Rattle.tree_laws.specs.Trees.{Tree, HasInlet, HasConsumer, gave_of}

@@ -2,7 +2,8 @@
 use Rattle.std.proofs.Common.{ℕ, zero, suc, ◌+◌, ◌<◌, ◌≤◌, ◌≡◌, inl, inr, refl, sym, ap, ◌∙◌, subst, List, [], ◌∷◌, ◌++◌, length, get_or, map, Bool, false, Option, Some, None, arith, zero-add, add-zero}
 use Rattle.std.proofs.lemmas.List.{append-nil, length-append}
 use Rattle.std.proofs.lemmas.Bool.Decides.{nat_tests, eqb_tells}
-use Rattle.physical_plan.specs.Layout.{Part, bare, numbers, numbers_from, consuming, side_by_side, reader, merger}
+use Rattle.plan_shape.specs.Layout.{Part, bare, consuming, side_by_side, reader, merger}
+use Rattle.physical_plan.specs.Numbers.{numbers, numbers_from}
 use Rattle.logical_plan.specs.Items.{concat}
 use Rattle.tree_laws.specs.Operators.{Op, IsOp}
 use Rattle.tree_laws.specs.Trees.{File, Tree, Nothing}

@@ -5,12 +5,12 @@ use Rattle.std.proofs.Common.{ℕ, zero, suc, ◌+◌, ◌<◌, ◌≡◌, refl,
 use Rattle.std.proofs.lemmas.List.Sums.{sum_by-cons}
 use Rattle.std.proofs.lemmas.Bool.{false≢true}
 use Rattle.plan_props.specs.Satisfies.{partition_count}
-use Rattle.physical_plan.specs.Planned.{all_true}
+use Rattle.physical_plan.specs.Everywhere.{all_true}
 use Rattle.physical_plan.specs.declared.plan.Plan.{Plan}
 use Rattle.physical_plan.specs.declared.plan.Plan.TheOpen.{Plan-F}
 use Rattle.physical_plan.specs.declared.plan.Plan.TheViews.{roll-Plan}
 use Rattle.physical_plan.specs.declared.plan.Plan.TheFolds.{fold-roll-Plan, para-roll-Plan, map-Plan, ind-Plan}
-use Rattle.physical_plan.specs.Layout.{numbers, numbers_from}
+use Rattle.physical_plan.specs.Numbers.{numbers, numbers_from}
 use Rattle.physical_plan.proofs.Everywhere.{and_parts}
 use Rattle.tree_laws.specs.Operators.{Op}
 use Rattle.tree_laws.specs.Trees.{File, Nothing}

@@ -8,7 +8,7 @@ use Rattle.physical_plan.specs.declared.plan.Plan.TheViews.{roll-Plan}
 use Rattle.tree_laws.specs.Operators.{Op, IsOp}
 use Rattle.tree_laws.specs.Trees.{File}
 use Rattle.content_laws.specs.SenderKinds.{whole_split, hash_split}
-use Rattle.physical_plan.specs.Layout.{layout}
+use Rattle.plan_shape.specs.Layout.{layout}
 use Rattle.plan_tasks.specs.Trees.{Doing, reserving, node, inlet, scan, stages_in}
 use Rattle.plan_tasks.specs.Tops.{tops}
 use Rattle.plan_tasks.specs.Starts.{starting, tasks_of}

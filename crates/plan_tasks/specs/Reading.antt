@@ -2,7 +2,8 @@
 use Rattle.std.specs.Prelude.{ℕ, ◌<◌, ◌≤◌, ◌≡◌, length, Bool, Option, Some, None, List, [], ◌∷◌, ◌++◌, slice_index_or}
 use Rattle.physical_plan.specs.declared.plan.Plan.{Plan}
 use Rattle.physical_plan.specs.declared.plan.Plan.TheOpen.{Plan-F}
-use Rattle.physical_plan.specs.Layout.{Part, numbers_from}
+use Rattle.plan_shape.specs.Layout.{Part}
+use Rattle.physical_plan.specs.Numbers.{numbers_from}
 use Rattle.logical_plan.specs.Items.{concat}
 use Rattle.tree_laws.specs.Operators.{IsOp}
 use Rattle.tree_laws.specs.Trees.{File, Tree, Nothing, Files, Inlet, Node, HasInlet}

@@ -5,7 +5,7 @@ use Rattle.plan_props.specs.Satisfies.{partition_count}
 use Rattle.physical_plan.specs.declared.plan.Plan.{Plan}
 use Rattle.physical_plan.specs.declared.plan.Plan.TheOpen.{Plan-F}
 use Rattle.physical_plan.specs.declared.plan.Plan.TheFolds.{fold-Plan, para-Plan}
-use Rattle.physical_plan.specs.Layout.{numbers}
+use Rattle.physical_plan.specs.Numbers.{numbers}
 use Rattle.logical_plan.specs.Items.{Cells, Item}
 use Rattle.tree_laws.specs.Operators.{Told, Op}
 use Rattle.tree_laws.specs.Trees.{Desk, File, in_files, Tree, Nothing, Files, Inlet, Node}

@@ -16,8 +16,8 @@ use Rattle.dfx_value.specs.declared.op.AggCall.{AggCall}
 use Rattle.dfx_value.specs.declared.op.AggCall.TheVariants.{CountAll, Count, Sum, Min, Max, Avg}
 use Rattle.dfx_value.specs.declared.value.Value.{Value}
 use Rattle.plan_props.specs.Meets.{Each, AllEqual}
-use Rattle.physical_plan.specs.Layout.{numbers}
-use Rattle.physical_plan.specs.NodeRows.{Holds}
+use Rattle.physical_plan.specs.Numbers.{numbers}
+use Rattle.node_laws.specs.NodeRows.{Holds}
 use Rattle.physical_plan.specs.Properties.{state_width}
 use Rattle.scalar_exprs.specs.Functions.{Outcome}
 use Rattle.scalar_exprs.specs.Agg.{argument}

@@ -5,10 +5,10 @@ use Rattle.physical_plan.specs.declared.plan.Plan.{Plan}
 use Rattle.physical_build.specs.Build.{build}
 use Rattle.enforce_dist.specs.Distribute.{enforce_distribution}
 use Rattle.enforce_sort.specs.Arrange.{enforce_sorting}
-use Rattle.range_laws.specs.Queries.{QueryInRange}
-use Rattle.range_laws.specs.Wholly.{IsWhollyPlanned}
-use Rattle.range_laws.proofs.Facts.{all_needs_ranged}
-use Rattle.range_laws.proofs.Wholly.{wholly_planned as planned}
+use Rattle.planned_laws.specs.Queries.{QueryInRange}
+use Rattle.planned_laws.specs.Wholly.{IsWhollyPlanned}
+use Rattle.planned_laws.proofs.Facts.{all_needs_ranged}
+use Rattle.planned_laws.proofs.Wholly.{wholly_planned as planned}
 use Rattle.logical_plan.specs.declared.query.Query.{Query}
 use Rattle.logical_plan.specs.Allowed.{Allowed}
 use Rattle.logical_plan.specs.Body.{Tables}

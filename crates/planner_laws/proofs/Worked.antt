@@ -10,7 +10,7 @@ use Rattle.logical_plan.specs.declared.plan.Logical.TheViews.{roll-Logical}
 use Rattle.logical_plan.specs.declared.plan.Logical.TheFolds.{fold-roll-Logical, para-roll-Logical, map-Logical}
 use Rattle.logical_plan.specs.declared.query.Query.{Query}
 use Rattle.logical_plan.specs.Body.{Tables, Part, node, whole, kinds}
-use Rattle.range_laws.specs.Queries.{here_and_below, body_in_range, QueryInRange}
+use Rattle.planned_laws.specs.Queries.{here_and_below, body_in_range, QueryInRange}
 use Rattle.answer_laws.specs.Distincts.{distinct_node, has_distincts}
 use Rattle.finished_laws.specs.Known.{known_node, is_known}
 

@@ -17,7 +17,7 @@ use Rattle.physical_plan.specs.declared.plan.Plan.{Plan}
 use Rattle.physical_plan.specs.declared.plan.Plan.TheOpen.{Plan-F}
 use Rattle.physical_plan.specs.declared.plan.Plan.TheViews.{roll-Plan}
 use Rattle.physical_plan.specs.declared.plan.Plan.TheFolds.{fold-roll-Plan}
-use Rattle.physical_plan.specs.Layout.{Laying, lay, layout, shape}
+use Rattle.plan_shape.specs.Layout.{Laying, lay, layout, shape}
 use Rattle.history_laws.specs.Histories.{begun}
 use Rattle.logical_plan.specs.Items.{Cells}
 use Rattle.logical_plan.specs.Body.{Tables}

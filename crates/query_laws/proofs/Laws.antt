@@ -10,11 +10,11 @@ use Rattle.core_frame.specs.declared.place.Place.TheVariants.{Done}
 use Rattle.dfx_prepare.specs.Preparing.{schema_of}
 use Rattle.dfx_prepare.specs.declared.prepared.Prepared.{Prepared}
 use Rattle.physical_plan.specs.declared.plan.Plan.{Plan}
-use Rattle.physical_plan.specs.Layout.{shape}
-use Rattle.physical_plan.proofs.Shapes.{is_shape}
-use Rattle.range_laws.specs.Wholly.{IsWhollyPlanned}
-use Rattle.range_laws.proofs.Facts.{all_needs_ranged}
-use Rattle.range_laws.proofs.Wholly.{wholly_planned}
+use Rattle.plan_shape.specs.Layout.{shape}
+use Rattle.plan_shape.proofs.Shapes.{is_shape}
+use Rattle.planned_laws.specs.Wholly.{IsWhollyPlanned}
+use Rattle.planned_laws.proofs.Facts.{all_needs_ranged}
+use Rattle.planned_laws.proofs.Wholly.{wholly_planned}
 use Rattle.binder_laws.proofs.Bounds.{bound_in_range}
 use Rattle.binder_kind_laws.specs.Scripts.{declared_kinds}
 use Rattle.binder_kind_laws.proofs.Bounds.{declared_kinded}

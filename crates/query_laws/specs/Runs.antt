@@ -7,7 +7,7 @@ use Rattle.sql_grammar.specs.declared.ast.Script.{Script}
 use Rattle.sql_grammar.specs.declared.ast.TableAst.{TableAst}
 use Rattle.physical_plan.specs.declared.plan.Plan.TheOpen.{Plan-F}
 use Rattle.physical_plan.specs.declared.plan.Plan.{Plan}
-use Rattle.physical_plan.specs.Layout.{shape}
+use Rattle.plan_shape.specs.Layout.{shape}
 use Rattle.logical_plan.specs.Body.{Tables}
 use Rattle.scan_run.specs.Sources.{CsvTable, tables_from}
 use Rattle.dfx_prepare.specs.Preparing.{Path, schema_of, script_of, prepared}

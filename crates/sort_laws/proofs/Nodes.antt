@@ -5,7 +5,7 @@ use Rattle.std.proofs.lemmas.List.{map-append, get_or_past}
 use Rattle.dfx_value.specs.declared.rows.SortKey.{SortKey}
 use Rattle.logical_plan.specs.Items.{Cells, Item, rows}
 use Rattle.plan_props.specs.Meets.{part}
-use Rattle.physical_plan.specs.NodeRows.{Arranged}
+use Rattle.node_laws.specs.NodeRows.{Arranged}
 use Rattle.node_laws.specs.Rows.{IsStretch, Stretches}
 use Rattle.node_laws.specs.Weaves.{Merges}
 use Rattle.tree_laws.specs.OperatorKinds.{cut}

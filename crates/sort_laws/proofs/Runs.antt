@@ -8,7 +8,7 @@ use Rattle.dfx_value.specs.Rows.{row_cmp}
 use Rattle.dfx_value.specs.declared.rows.SortKey.{SortKey}
 use Rattle.logical_plan.specs.Items.{Cells, concat, rows, of_rows}
 use Rattle.plan_props.specs.Meets.{Each, InOrder, part}
-use Rattle.physical_plan.specs.NodeRows.{Holds, Arranged}
+use Rattle.node_laws.specs.NodeRows.{Holds, Arranged}
 use Rattle.tree_laws.specs.OperatorKinds.{merge}
 use Rattle.content_laws.specs.Bags.{together}
 use Rattle.tree_laws.proofs.Fronts.{concat-append}

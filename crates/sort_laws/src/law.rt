@@ -8,7 +8,7 @@ ghost use Rattle.logical_plan.specs.Body.{Tables, body};
 ghost use Rattle.logical_plan.specs.Allowed.{first_of, Allows, Allowed};
 ghost use Rattle.logical_plan.specs.declared.query.Query.{Query};
 ghost use Rattle.plan_props.specs.Meets.{Hashing, InOrder, part};
-ghost use Rattle.physical_plan.specs.NodeRows.{Arranged};
+ghost use Rattle.node_laws.specs.NodeRows.{Arranged};
 ghost use Rattle.physical_plan.specs.declared.plan.Plan.TheOpen.{Plan-F as Node};
 ghost use Rattle.physical_plan.specs.declared.properties.Declared.{Declared as Said};
 ghost use Rattle.node_laws.specs.Nodes.{NodeGives};

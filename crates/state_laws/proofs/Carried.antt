@@ -5,7 +5,7 @@ use Rattle.std.proofs.lemmas.List.Sums.{sum_by-append}
 use Rattle.run_journal.specs.declared.entry.Entry.{Entry}
 use Rattle.history_laws.specs.Contents.{took}
 use Rattle.physical_plan.specs.declared.plan.Plan.{Plan}
-use Rattle.physical_plan.specs.Layout.{shape}
+use Rattle.plan_shape.specs.Layout.{shape}
 use Rattle.logical_plan.specs.Items.{Item, of_rows, concat}
 use Rattle.tree_laws.specs.Runs.{State, IsReached}
 use Rattle.content_laws.specs.SenderKinds.{is_at}

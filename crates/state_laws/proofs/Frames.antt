@@ -7,9 +7,9 @@ use Rattle.history_laws.specs.Contents.{IsTold}
 use Rattle.history_laws.specs.Reserved.{IsHeld}
 use Rattle.history_laws.proofs.Laws.{recorded, reserved}
 use Rattle.physical_plan.specs.declared.plan.Plan.{Plan}
-use Rattle.physical_plan.specs.Layout.{shape}
-use Rattle.physical_plan.proofs.Shapes.{is_shape}
-use Rattle.physical_plan.proofs.Owners.{has_owners}
+use Rattle.plan_shape.specs.Layout.{shape}
+use Rattle.plan_shape.proofs.Shapes.{is_shape}
+use Rattle.plan_shape.proofs.Owners.{has_owners}
 use Rattle.tree_laws.specs.Runs.{State, IsReached}
 
 module _ (p : Plan) (size limit : ℕ) (start s : State) (entries : List Entry) (reached : IsReached (shape p) size limit start entries s) where

@@ -6,9 +6,10 @@ use Rattle.run_journal.specs.declared.entry.Entry.{Entry}
 use Rattle.plan_props.specs.Meets.{Hashing}
 use Rattle.physical_plan.specs.declared.plan.Plan.{Plan}
 use Rattle.physical_plan.specs.declared.plan.Plan.TheVariants.{rolls-Limit}
-use Rattle.physical_plan.specs.Layout.{shape}
-use Rattle.physical_plan.specs.Planned.{IsFinished, everywhere}
-use Rattle.physical_plan.proofs.Shapes.{is_shape}
+use Rattle.plan_shape.specs.Layout.{shape}
+use Rattle.planned_laws.specs.Finished.{IsFinished}
+use Rattle.physical_plan.specs.Everywhere.{everywhere}
+use Rattle.plan_shape.proofs.Shapes.{is_shape}
 use Rattle.physical_build.specs.Build.{build}
 use Rattle.node_laws.specs.Tests.{needs_in_range}
 use Rattle.logical_plan.specs.declared.query.Query.{Query}

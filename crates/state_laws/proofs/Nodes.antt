@@ -7,9 +7,10 @@ use Rattle.plan_props.specs.Meets.{Hashing, part}
 use Rattle.physical_plan.specs.declared.plan.Plan.{Plan}
 use Rattle.physical_plan.specs.declared.plan.Plan.TheOpen.{Plan-F}
 use Rattle.physical_plan.specs.declared.plan.Plan.TheViews.{roll-Plan}
-use Rattle.physical_plan.specs.Layout.{shape, numbers, numbers_from}
+use Rattle.plan_shape.specs.Layout.{shape}
+use Rattle.physical_plan.specs.Numbers.{numbers, numbers_from}
 use Rattle.physical_plan.specs.Properties.{declared_of}
-use Rattle.physical_plan.proofs.Shapes.{is_shape}
+use Rattle.plan_shape.proofs.Shapes.{is_shape}
 use Rattle.node_laws.specs.Nodes.{Stands}
 use Rattle.node_laws.specs.Rows.{Begins, Begun, IsStretch, Stretches}
 use Rattle.node_laws.proofs.Wholes.{plan_stands, begun_stands}

@@ -5,7 +5,7 @@ use Rattle.physical_plan.specs.declared.plan.Plan.{Plan}
 use Rattle.physical_plan.specs.declared.plan.Plan.TheOpen.{Plan-F}
 use Rattle.physical_plan.specs.declared.plan.Plan.TheViews.{roll-Plan}
 use Rattle.physical_plan.specs.declared.plan.Plan.TheFolds.{map-Plan}
-use Rattle.physical_plan.specs.Planned.{Test, everywhere, node_holds, all_true}
+use Rattle.physical_plan.specs.Everywhere.{Test, everywhere, node_holds, all_true}
 use Rattle.logical_plan.specs.Items.{rows}
 use Rattle.logical_plan.specs.Body.{Tables}
 use Rattle.plan_tasks.specs.Trees.{stages_in, sources_in}

@@ -3,7 +3,7 @@ use Rattle.std.specs.Prelude.{ℕ, ◌<◌, ◌≡◌, true, List, [], ◌∷◌
 use Rattle.std.specs.List.{AllPass, AllByRecursion}
 use Rattle.plan_props.specs.Meets.{Hashing, Meets}
 use Rattle.physical_plan.specs.declared.plan.Plan.{Plan}
-use Rattle.physical_plan.specs.Layout.{shape}
+use Rattle.plan_shape.specs.Layout.{shape}
 use Rattle.physical_plan.specs.Properties.{props, declared_of}
 use Rattle.node_laws.specs.Nodes.{Stands}
 use Rattle.task_shape.specs.Shape.{receives_at}

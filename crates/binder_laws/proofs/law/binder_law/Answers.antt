@@ -1,4 +1,4 @@
-use Rattle.range_laws.proofs.Wholly.{wholly_planned}
+use Rattle.planned_laws.proofs.Wholly.{wholly_planned}
 use Rattle.binder_laws.proofs.Bounds.{bound_in_range}
 use Rattle.binder_laws.proofs.law.binder_law.Goals as goal
 

@@ -1,6 +1,6 @@
 use Rattle.std.proofs.Common.{◌≡◌, ◌∙◌, ap, sym, subst}
 use Rattle.physical_plan.specs.declared.plan.Plan.{Plan}
-use Rattle.physical_build.specs.Planned.{IsPlanned}
+use Rattle.planned_laws.specs.Planned.{IsPlanned}
 use Rattle.enforce_dist.specs.Distribute.{enforce_distribution}
 use Rattle.enforce_sort.specs.Arrange.{enforce_sorting}
 use Rattle.dfx_prepare.specs.Preparing.{plan_of}

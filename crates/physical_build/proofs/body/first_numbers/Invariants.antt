@@ -1,5 +1,5 @@
 use Rattle.std.proofs.Common.{◌≡◌}
-use Rattle.physical_plan.specs.Layout.{numbers}
+use Rattle.physical_plan.specs.Numbers.{numbers}
 use Rattle.physical_build.proofs.body.first_numbers.Given as goal
 
 abbrev pub invariant-loop-number : goal.invariant-loop-number

@@ -1,5 +1,5 @@
 use Rattle.std.proofs.Common.{◌≡◌, ◌+◌, map, drop, length}
-use Rattle.physical_plan.specs.Layout.{layout, laid_after, end_to_end}
+use Rattle.plan_shape.specs.Layout.{layout, laid_after, end_to_end}
 use Rattle.plan_shape.proofs.layout.+lay.Given as goal
 
 abbrev pub invariant-lay_all-loop-plan : goal.invariant-lay_all-loop-plan

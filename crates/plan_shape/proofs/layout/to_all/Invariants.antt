@@ -1,5 +1,6 @@
 use Rattle.std.proofs.Common.{◌≡◌, ◌++◌, map, drop}
-use Rattle.physical_plan.specs.Layout.{Part, numbers}
+use Rattle.plan_shape.specs.Layout.{Part}
+use Rattle.physical_plan.specs.Numbers.{numbers}
 use Rattle.plan_shape.proofs.layout.to_all.Given as goal
 
 abbrev pub invariant-loop-part : goal.invariant-loop-part

@@ -1,5 +1,5 @@
 use Rattle.std.proofs.Common.{◌≡◌, [], ◌∷◌, ◌++◌, map, drop}
-use Rattle.physical_plan.specs.Layout.{Part}
+use Rattle.plan_shape.specs.Layout.{Part}
 use Rattle.plan_shape.proofs.layout.to_first.Given as goal
 
 abbrev pub invariant-loop-part : goal.invariant-loop-part

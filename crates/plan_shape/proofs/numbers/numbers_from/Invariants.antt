@@ -1,5 +1,5 @@
 use Rattle.std.proofs.Common.{◌≡◌, ◌+◌, ◌-◌, ◌++◌}
-use Rattle.physical_plan.specs.Layout.{numbers_from}
+use Rattle.physical_plan.specs.Numbers.{numbers_from}
 use Rattle.plan_shape.proofs.numbers.numbers_from.Given as goal
 
 abbrev pub invariant-loop-at : goal.invariant-loop-at

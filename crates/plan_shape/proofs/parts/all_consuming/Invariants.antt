@@ -1,5 +1,5 @@
 use Rattle.std.proofs.Common.{◌≡◌, ◌++◌, map, drop}
-use Rattle.physical_plan.specs.Layout.{consuming}
+use Rattle.plan_shape.specs.Layout.{consuming}
 use Rattle.plan_shape.proofs.parts.all_consuming.Given as goal
 
 abbrev pub invariant-loop-part : goal.invariant-loop-part

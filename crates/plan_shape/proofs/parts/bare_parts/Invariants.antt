@@ -1,5 +1,5 @@
 use Rattle.std.proofs.Common.{◌≡◌, ◌-◌, ◌++◌, replicate}
-use Rattle.physical_plan.specs.Layout.{bare}
+use Rattle.plan_shape.specs.Layout.{bare}
 use Rattle.plan_shape.proofs.parts.bare_parts.Given as goal
 
 abbrev pub invariant-loop-at : goal.invariant-loop-at

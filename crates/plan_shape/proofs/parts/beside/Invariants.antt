@@ -1,5 +1,5 @@
 use Rattle.std.proofs.Common.{◌≡◌, ◌++◌, drop}
-use Rattle.physical_plan.specs.Layout.{beside}
+use Rattle.plan_shape.specs.Layout.{beside}
 use Rattle.plan_shape.proofs.parts.beside.Given as goal
 
 abbrev pub invariant-loop-at : goal.invariant-loop-at

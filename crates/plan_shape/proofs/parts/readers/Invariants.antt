@@ -1,5 +1,5 @@
 use Rattle.std.proofs.Common.{◌≡◌, ◌++◌, map, drop}
-use Rattle.physical_plan.specs.Layout.{reader}
+use Rattle.plan_shape.specs.Layout.{reader}
 use Rattle.plan_shape.proofs.parts.readers.Given as goal
 
 abbrev pub invariant-loop-channel : goal.invariant-loop-channel

@@ -1,5 +1,5 @@
 use Rattle.std.proofs.Common.{◌≡◌, ◌++◌, drop, length}
-use Rattle.physical_plan.specs.Layout.{tasks_from, spills_from, widths_of}
+use Rattle.plan_shape.specs.Layout.{tasks_from, spills_from, widths_of}
 use Rattle.plan_shape.proofs.shapes.shape_from.Given as goal
 
 abbrev pub invariant-loop-at : goal.invariant-loop-at

@@ -1,5 +1,5 @@
 use Rattle.std.proofs.Common.{◌≡◌, ◌++◌, drop}
-use Rattle.physical_plan.specs.Layout.{spills_of}
+use Rattle.plan_shape.specs.Layout.{spills_of}
 use Rattle.plan_shape.proofs.tasks.push_spills.Given as goal
 
 abbrev pub invariant-loop-part : goal.invariant-loop-part

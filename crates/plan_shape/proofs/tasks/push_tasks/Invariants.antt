@@ -1,5 +1,5 @@
 use Rattle.std.proofs.Common.{◌≡◌, ◌++◌, drop}
-use Rattle.physical_plan.specs.Layout.{tasks_of}
+use Rattle.plan_shape.specs.Layout.{tasks_of}
 use Rattle.plan_shape.proofs.tasks.push_tasks.Given as goal
 
 abbrev pub invariant-loop-at : goal.invariant-loop-at

@@ -1,7 +1,0 @@
-use Rattle.physical_build.specs.Build.{body_plan}
-use Rattle.physical_build.proofs.Plains.{body_is_plain}
-use Rattle.enforce_sort.proofs.Finished.{is_finished}
-use Rattle.enforce_sort.proofs.law.planned_law.Goals as goal
-
-pub returns : goal.returns
-returns c = λ q files n. is_finished (body_plan files n q.body) q.order q.offset q.limit n (body_is_plain files n q.body)
