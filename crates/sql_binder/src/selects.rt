@@ -213,11 +213,7 @@ fn bind_all(
 
 /// Selects that are united, of which there is one at least.
 #[cycle(select)]
-pub fn bind_parts(
-    alloc: Global,
-    tables: &[Table],
-    parts: &[SelectAst],
-) -> Result<Selected, Unbound>
+pub fn bind_parts(alloc: Global, tables: &[Table], parts: &[SelectAst]) -> Result<Selected, Unbound>
     ensures { Gives result (spec.union_of (map (spec.select tables.now) parts.now)) }
 {
     let done = bind_all(alloc, tables, parts)?;
