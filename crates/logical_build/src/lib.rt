@@ -8,7 +8,7 @@ mod outputs;
 mod unions;
 
 pub use calls::{argument, numbered};
-pub use groups::{aggregated, key_kinds, kept};
+pub use groups::{aggregated, kept, key_kinds};
 pub use number::as_u32;
 pub use outputs::{Output, project};
 pub use unions::{all_unified, with_kinds};

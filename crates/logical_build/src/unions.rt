@@ -13,7 +13,11 @@ use std::alloc::Global;
 
 /// The kinds unified column by column, where there are as many and they unify.
 #[tactic(auto, using(crate::proofs::Uneven::not_unified))]
-pub fn all_unified(alloc: Global, left: &[Kind], right: &[Kind]) -> Result<Option<Seq<Kind>>, NoMemory>
+pub fn all_unified(
+    alloc: Global,
+    left: &[Kind],
+    right: &[Kind],
+) -> Result<Option<Seq<Kind>>, NoMemory>
     ensures { IfOk result (λ kinds. kinds ≡ spec.all_unified left.now right.now) }
 {
     if left.len() != right.len() {

@@ -25,7 +25,7 @@ pub struct Clauses {
 }
 
 /// The clauses over these columns, where `calls` are the aggregate calls of the select.
-pub fn clauses(
+pub fn bind_clauses(
     alloc: Global,
     select: &SelectAst,
     calls: &[ExprAst],

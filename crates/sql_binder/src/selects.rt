@@ -7,7 +7,7 @@ ghost use Rattle.sql_binder.specs.Selects as spec;
 ghost use Rattle.sql_binder.specs.Sources as sources;
 
 use crate::aggregates::{arguments, calls, is_grouped};
-use crate::clauses::{Clauses, clauses};
+use crate::clauses::{Clauses, bind_clauses};
 use crate::items::outputs;
 use crate::selected::Selected;
 use crate::sources::{Source, derived, filtered, has_alias, join_sources, table};
@@ -79,7 +79,7 @@ fn grouped(
     ensures { Gives result (spec.grouped (spec.parts select.now) calls.now source) }
 {
     let Source { columns, body } = source;
-    let bound = clauses(alloc, select, calls, columns.as_slice())?;
+    let bound = bind_clauses(alloc, select, calls, columns.as_slice())?;
     let arguments = arguments(alloc, columns.as_slice(), calls)?;
     let Clauses {
         keys,
@@ -213,11 +213,7 @@ fn bind_all(
 
 /// Selects that are united, of which there is one at least.
 #[cycle(select)]
-pub fn bind_parts(
-    alloc: Global,
-    tables: &[Table],
-    parts: &[SelectAst],
-) -> Result<Selected, Unbound>
+pub fn bind_parts(alloc: Global, tables: &[Table], parts: &[SelectAst]) -> Result<Selected, Unbound>
     ensures { Gives result (spec.union_of (map (spec.select tables.now) parts.now)) }
 {
     let done = bind_all(alloc, tables, parts)?;

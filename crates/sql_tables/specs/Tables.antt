@@ -1,4 +1,4 @@
--- Meaning: the tables that a script declares, each tested at its place, in the order of the stateme
+-- Meaning: the tables that a script declares, each tested at its place, in the order of statements.
 use Rattle.std.specs.Prelude.{ℕ, not, ◌&&◌, ◌||◌, Bool, true, false, codes, List, [], ◌∷◌, ◌++◌, map, Ok, if◌then◌else◌}
 use Rattle.dfx_value.specs.declared.kind.Kind.{Kind}
 use Rattle.sql_grammar.specs.declared.ast.TableAst.{TableAst}

@@ -2,9 +2,9 @@
 #![tactic(auto)]
 
 mod schema;
+mod statements;
 mod table;
-mod tables;
 
 pub use schema::Schema;
+pub use statements::{columns_under, tables};
 pub use table::Table;
-pub use tables::{columns_under, tables};

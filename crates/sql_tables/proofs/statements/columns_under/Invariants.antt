@@ -1,6 +1,6 @@
 use Rattle.std.proofs.Common.{◌≡◌, ◌++◌, drop}
 use Rattle.sql_tables.specs.Tables as spec
-use Rattle.sql_tables.proofs.tables.columns_under.Given as goal
+use Rattle.sql_tables.proofs.statements.columns_under.Given as goal
 
 -- those so far, and the rest
 abbrev pub invariant-loop-at : goal.invariant-loop-at

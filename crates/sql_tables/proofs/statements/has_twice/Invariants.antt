@@ -1,6 +1,6 @@
 use Rattle.std.proofs.Common.{◌≡◌, drop}
 use Rattle.sql_tables.specs.Tables as spec
-use Rattle.sql_tables.proofs.tables.has_twice.Given as goal
+use Rattle.sql_tables.proofs.statements.has_twice.Given as goal
 
 -- each once so far
 abbrev pub invariant-loop-at : goal.invariant-loop-at

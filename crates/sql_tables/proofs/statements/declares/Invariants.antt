@@ -1,6 +1,6 @@
 use Rattle.std.proofs.Common.{◌≡◌, drop}
 use Rattle.sql_tables.specs.Tables as spec
-use Rattle.sql_tables.proofs.tables.declares.Given as goal
+use Rattle.sql_tables.proofs.statements.declares.Given as goal
 
 -- none so far
 abbrev pub invariant-loop-table : goal.invariant-loop-table

@@ -1,6 +1,6 @@
 use Rattle.std.proofs.Common.{◌≡◌, drop}
 use Rattle.sql_tables.specs.Tables as spec
-use Rattle.sql_tables.proofs.tables.is_among.Given as goal
+use Rattle.sql_tables.proofs.statements.is_among.Given as goal
 
 -- none so far
 abbrev pub invariant-loop-other : goal.invariant-loop-other
