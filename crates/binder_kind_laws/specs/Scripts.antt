@@ -1,4 +1,4 @@
--- Meaning: scripts and tables as the grammar has them: each select has an item, and each table's columns have names and kinds.
+-- Meaning: scripts of which each select has an item, and tables of which each column has a kind.
 use Rattle.std.specs.Prelude.{Bool, true, ◌&&◌, ◌==◌, nat_lt, List, [], ◌∷◌, length, map}
 use Rattle.std.specs.List.{list_all}
 use Rattle.dfx_value.specs.Kinds.{are_kinds}

@@ -19,16 +19,18 @@ ghost use Rattle.sql_binder.specs.Sources.{kinds};
 ghost use Rattle.sql_binder.specs.Bound.{bound};
 ghost use Rattle.binder_kind_laws.specs.Scripts.{has_items, are_whole, kinds_of, declared_schema, declared_kinds};
 
-/// What an expression means over columns has the kind that is told with it, and its constants fit (`expressions`).
+/// What an expression means over columns has the kind that is told with it, and its constants fit
+/// (`expressions`).
 ///
-/// The query that a script means over tables, each with a kind for each name, is well-kinded over them (`queries`) and
-/// has a name for each of its columns (`names`). The premise on the script is that each select has an item. A script
-/// that a text spells has them, and kinds for the columns that it declares: so its query is well-kinded over its tables
-/// (`spelled`).
+/// The query that a script means over tables, each with a kind for each name, is well-kinded over
+/// them (`queries`) and has a name for each of its columns (`names`). The premise on the script is
+/// that each select has an item. A script that a text spells has them, and kinds for the columns
+/// that it declares: so its query is well-kinded over its tables (`spelled`).
 pub fn kinded_law()
-    ensures expressions { (columns : Columns) (e : AExprAst) (t : ATyped) → are_kinds (kinds columns) ≡ true
-        → meaning columns e None ≡ Ok t
-        → (kind_of (kinds columns) (settled t).0 ≡ Some (settled t).1) × (constants_fit (settled t).0 ≡ true) }
+    ensures expressions { (columns : Columns) (e : AExprAst) (t : ATyped)
+        → are_kinds (kinds columns) ≡ true → meaning columns e None ≡ Ok t
+        → (kind_of (kinds columns) (settled t).0 ≡ Some (settled t).1)
+        × (constants_fit (settled t).0 ≡ true) }
     ensures queries { (script : AScript) (schemas : List ASchema) (ts : List ATable) (q : AQuery)
         → tables script.tables schemas ≡ Ok ts → are_whole ts ≡ true → has_items script ≡ true
         → bound script schemas ≡ Ok q → is_well_kinded (kinds_of ts) q.body ≡ true }
