@@ -5,11 +5,12 @@ use Rattle.sql_grammar.specs.declared.ast.Script.{Script}
 use Rattle.sql_grammar.specs.declared.ast.SelectAst.{SelectAst}
 use Rattle.sql_grammar.specs.declared.ast.FromAst.TheViews.{out-SelectAst}
 use Rattle.expr_binder.specs.Answer.{Answer, ◌>>=◌}
-use Rattle.sql_binder.specs.declared.schema.Schema.{Schema}
+use Rattle.sql_tables.specs.declared.schema.Schema.{Schema}
+use Rattle.sql_tables.specs.declared.table.Table.{Table}
 use Rattle.sql_binder.specs.declared.selected.Selected.{Selected}
 use Rattle.sql_binder.specs.Orders.{Single, item_tests, order, limit, offset}
 use Rattle.sql_binder.specs.Selects.{Selecting, select, union_of}
-use Rattle.sql_binder.specs.Tables.{tables_tested}
+use Rattle.sql_tables.specs.Tables.{tables}
 use Rattle.sql_binder.specs.Bound.{single, query_of, bound}
 use Rattle.planned_laws.specs.Ranges.{are_below, key_columns}
 use Rattle.planned_laws.specs.Queries.{body_width, QueryInRange}
@@ -38,14 +39,14 @@ query_bounds script s f =
       names = f.0.names_of ∙ sym f.0.kinds_of;
     })))
 
-module _ (schemas : List Schema) where
-  every_well : (parts : List SelectAst) → Every Selects (map (select schemas) parts)
+module _ (ts : List Table) where
+  every_well : (parts : List SelectAst) → Every Selects (map (select ts) parts)
   every_well [] = tt
-  every_well (p ∷ ps) = (weaker (FitsItems (out-SelectAst p).items) Fits (select schemas p).select (λ x f. f.0) (selects_well schemas p), every_well ps)
+  every_well (p ∷ ps) = (weaker (FitsItems (out-SelectAst p).items) Fits (select ts p).select (λ x f. f.0) (selects_well ts p), every_well ps)
 
-  parts_fit : (parts : List SelectAst) → Holds (FitsParts parts) (union_of (map (select schemas) parts))
+  parts_fit : (parts : List SelectAst) → Holds (FitsParts parts) (union_of (map (select ts) parts))
   parts_fit [] = tt
-  parts_fit (p ∷ []) = one (select schemas p) (selects_well schemas p)
+  parts_fit (p ∷ []) = one (select ts p) (selects_well ts p)
     where
       one : (s : Selecting) → Holds (FitsItems (out-SelectAst p).items) s.select → Holds (FitsParts (p ∷ [])) (union_of (s ∷ []))
       one s h = go s.select h
@@ -53,12 +54,11 @@ module _ (schemas : List Schema) where
           go : (a : Answer Selected) → Holds (FitsItems (out-SelectAst p).items) a → Holds (FitsParts (p ∷ [])) (union_of (record { place = s.place; select = a } ∷ []))
           go (Ok x) f = (f.0, λ y e. let q : (x.columns, (out-SelectAst p).items) ≡ y = cc in subst (λ (z : Single). length (item_tests z.0 z.1) ≡ length x.names) q (f.1 ∙ sym f.0.names_of))
           go (Err r) f = tt
-  parts_fit (p ∷ q ∷ ps) = weaker Fits (FitsParts (p ∷ q ∷ ps)) (union_of (map (select schemas) (p ∷ q ∷ ps))) (λ s f. (f, λ y e. cc)) (union_fits (map (select schemas) (p ∷ q ∷ ps)) (every_well (p ∷ q ∷ ps)))
-
-  all_bounds : (script : Script) → Holds Bounds (bound script schemas)
-  all_bounds script =
-      whatever Bounds (tables_tested script.tables schemas) (λ u. union_of (map (select schemas) script.parts) >>= query_of script)
-      (λ u. after (FitsParts script.parts) Bounds (union_of (map (select schemas) script.parts)) (query_of script) (parts_fit script.parts) (query_bounds script))
+  parts_fit (p ∷ q ∷ ps) = weaker Fits (FitsParts (p ∷ q ∷ ps)) (union_of (map (select ts) (p ∷ q ∷ ps))) (λ s f. (f, λ y e. cc)) (union_fits (map (select ts) (p ∷ q ∷ ps)) (every_well (p ∷ q ∷ ps)))
 
 pub bound_in_range : (script : Script) (schemas : List Schema) (q : Query) → bound script schemas ≡ Ok q → Bounds q
-bound_in_range script schemas q e = answered Bounds (bound script schemas) q (all_bounds schemas script) e
+bound_in_range script schemas q e = answered Bounds (bound script schemas) q all_bounds e
+  where
+    all_bounds : Holds Bounds (bound script schemas)
+    all_bounds = whatever Bounds (tables script.tables schemas) (λ ts. union_of (map (select ts) script.parts) >>= query_of script)
+        (λ ts. after (FitsParts script.parts) Bounds (union_of (map (select ts) script.parts)) (query_of script) (parts_fit ts script.parts) (query_bounds script))

@@ -19,11 +19,11 @@ use Rattle.expr_binder.specs.Scopes.{Columns, any_is, is_under}
 use Rattle.expr_binder.specs.Typed.{tested}
 use Rattle.expr_binder.specs.Meaning.{meaning, place_of}
 use Rattle.join_lowering.specs.Lowering.{lowered}
-use Rattle.sql_binder.specs.declared.schema.Schema.{Schema}
+use Rattle.sql_tables.specs.declared.table.Table.{Table}
 use Rattle.sql_binder.specs.declared.sources.Source.{Source}
 use Rattle.sql_binder.specs.declared.selected.Selected.{Selected}
-use Rattle.sql_binder.specs.Tables.{columns_under}
-use Rattle.sql_binder.specs.Sources.{kinds, scanned, place_of_table, names_at, kinds_at, table, derived, Reading, Joining, if_new, under_new_alias, condition, side, joined_body, joined_on, joined, all_joined, from, filtered}
+use Rattle.sql_tables.specs.Tables.{columns_under}
+use Rattle.sql_binder.specs.Sources.{kinds, scanned, number_of_table, names_at, kinds_at, table, derived, Reading, Joining, if_new, under_new_alias, condition, side, joined_body, joined_on, joined, all_joined, from, filtered}
 use Rattle.sql_binder.specs.Selects.{Parts, Selecting, union_of, selected, select, reading_of, joining_of}
 use Rattle.binder_laws.proofs.Trees.{select_is, joining_is, named_is, derived_is}
 use Rattle.join_lowering.specs.Keys.{columns}
@@ -42,10 +42,10 @@ use Rattle.binder_laws.proofs.Unions.{Selects, union_fits}
 scanned_good : (t : ℕ) (columns : Columns) → Sourced (scanned t columns)
 scanned_good t columns = (holds-Scan t (kinds columns), width-Scan t (kinds columns) ∙ length-map columns _)
 
-table_good : (schemas : List Schema) (place : ℕ) (name alias : List ℕ) → Holds Sourced (table schemas place name alias)
-table_good schemas place name alias =
-    whatever Sourced (or_refuse why.UnknownTable place (place_of_table schemas name)) (λ k. Ok (scanned k (columns_under alias (names_at schemas k) (kinds_at schemas k))))
-    (λ k. scanned_good k (columns_under alias (names_at schemas k) (kinds_at schemas k)))
+table_good : (tables : List Table) (place : ℕ) (name alias : List ℕ) → Holds Sourced (table tables place name alias)
+table_good tables place name alias =
+    whatever Sourced (or_refuse why.UnknownTable place (number_of_table tables name)) (λ k. Ok (scanned k (columns_under alias (names_at tables k) (kinds_at tables k))))
+    (λ k. scanned_good k (columns_under alias (names_at tables k) (kinds_at tables k)))
 
 under_length : (alias : List ℕ) (names : List (List ℕ)) (ks : List Kind) → length names ≡ length ks → length (columns_under alias names ks) ≡ length ks
 under_length alias [] [] e = refl
@@ -97,15 +97,15 @@ filtered_good (Some e) s h = after (Reads (length s.columns)) Sourced (condition
 
 -- ---- the tree
 
-module _ (schemas : List Schema) where
+module _ (tables : List Table) where
   abbrev FromWell : FromAst → Type 0
-  FromWell f = ReadsWell (reading_of schemas f)
+  FromWell f = ReadsWell (reading_of tables f)
 
   abbrev JoinWell : JoinAst → Type 0
-  JoinWell j = JoinsWell (joining_of schemas j)
+  JoinWell j = JoinsWell (joining_of tables j)
 
   abbrev pub SelectWell : SelectAst → Type 0
-  SelectWell s = Holds (FitsItems (out-SelectAst s).items) (select schemas s).select
+  SelectWell s = Holds (FitsItems (out-SelectAst s).items) (select tables s).select
 
   abbrev AFrom : Type 0
   AFrom = (f : FromAst) × FromWell f
@@ -119,25 +119,25 @@ module _ (schemas : List Schema) where
   abbrev selects_of : List ASelect → List SelectAst
   selects_of ss = map (λ (s : ASelect). s.0) ss
 
-  every_select : (ss : List ASelect) → Every Selects (map (select schemas) (selects_of ss))
+  every_select : (ss : List ASelect) → Every Selects (map (select tables) (selects_of ss))
   every_select [] = tt
-  every_select (s ∷ ss) = (weaker (FitsItems (out-SelectAst s.0).items) Fits (select schemas s.0).select (λ x f. f.0) s.1, every_select ss)
+  every_select (s ∷ ss) = (weaker (FitsItems (out-SelectAst s.0).items) Fits (select tables s.0).select (λ x f. f.0) s.1, every_select ss)
 
   from_step : (y : FromAst-F AFrom AJoin ASelect) → FromWell (roll-FromAst (map-FromAst AFrom AJoin ASelect FromAst JoinAst SelectAst (λ k. k.0) (λ k. k.0) (λ k. k.0) y))
-  from_step (FromAst-F.Named name alias place) = subst FromWell (sym (rolls-Named name alias place)) (subst ReadsWell (sym (named_is schemas name alias place)) (table_good schemas place name alias))
-  from_step (FromAst-F.Derived ss alias place) = subst FromWell (sym (rolls-Derived (selects_of ss) alias place)) (subst ReadsWell (sym (derived_is schemas (selects_of ss) alias place))
-      (after Fits Sourced (union_of (map (select schemas) (selects_of ss))) (λ s. Ok (derived alias s)) (union_fits (map (select schemas) (selects_of ss)) (every_select ss)) (derived_good alias)))
+  from_step (FromAst-F.Named name alias place) = subst FromWell (sym (rolls-Named name alias place)) (subst ReadsWell (sym (named_is tables name alias place)) (table_good tables place name alias))
+  from_step (FromAst-F.Derived ss alias place) = subst FromWell (sym (rolls-Derived (selects_of ss) alias place)) (subst ReadsWell (sym (derived_is tables (selects_of ss) alias place))
+      (after Fits Sourced (union_of (map (select tables) (selects_of ss))) (λ s. Ok (derived alias s)) (union_fits (map (select tables) (selects_of ss)) (every_select ss)) (derived_good alias)))
 
   abbrev bare_join : JoinAst-F AFrom AJoin ASelect → JoinAst-F FromAst JoinAst SelectAst
   bare_join y = map-JoinAst AFrom AJoin ASelect FromAst JoinAst SelectAst (λ k. k.0) (λ k. k.0) (λ k. k.0) y
 
   join_step : (y : JoinAst-F AFrom AJoin ASelect) → JoinWell (roll-JoinAst (bare_join y))
-  join_step y = subst JoinsWell (sym (joining_is schemas (roll-JoinAst (bare_join y)))) (subst (λ (x : JoinAst-F FromAst JoinAst SelectAst). FromWell x.right) (sym (out-roll-JoinAst (bare_join y))) y.right.1)
+  join_step y = subst JoinsWell (sym (joining_is tables (roll-JoinAst (bare_join y)))) (subst (λ (x : JoinAst-F FromAst JoinAst SelectAst). FromWell x.right) (sym (out-roll-JoinAst (bare_join y))) y.right.1)
 
   abbrev joins_of : List AJoin → List JoinAst
   joins_of js = map (λ (j : AJoin). j.0) js
 
-  every_join : (js : List AJoin) → Every JoinsWell (map (joining_of schemas) (joins_of js))
+  every_join : (js : List AJoin) → Every JoinsWell (map (joining_of tables) (joins_of js))
   every_join [] = tt
   every_join (j ∷ js) = (j.1, every_join js)
 
@@ -148,17 +148,17 @@ module _ (schemas : List Schema) where
   parts_of_layer s = record { distinct = s.distinct; items = s.items; groups = s.groups; having = s.having }
 
   abbrev SelectsWell : SelectAst-F FromAst JoinAst SelectAst → Type 0
-  SelectsWell x = Holds (FitsItems x.items) (from (reading_of schemas x.first) (map (joining_of schemas) x.joins) >>= filtered x.test >>= selected (parts_of_layer x))
+  SelectsWell x = Holds (FitsItems x.items) (from (reading_of tables x.first) (map (joining_of tables) x.joins) >>= filtered x.test >>= selected (parts_of_layer x))
 
   layer_step : (y : SelectAst-F AFrom AJoin ASelect) → SelectsWell (bare_select y)
   layer_step y =
-      after Sourced (FitsItems y.items) (from (reading_of schemas y.first.0) (map (joining_of schemas) (joins_of y.joins)) >>= filtered y.test) (selected (parts_of_layer (bare_select y)))
-      (after Sourced Sourced (from (reading_of schemas y.first.0) (map (joining_of schemas) (joins_of y.joins))) (filtered y.test) (from_good (reading_of schemas y.first.0) (map (joining_of schemas) (joins_of y.joins)) y.first.1 (every_join y.joins)) (filtered_good y.test))
+      after Sourced (FitsItems y.items) (from (reading_of tables y.first.0) (map (joining_of tables) (joins_of y.joins)) >>= filtered y.test) (selected (parts_of_layer (bare_select y)))
+      (after Sourced Sourced (from (reading_of tables y.first.0) (map (joining_of tables) (joins_of y.joins))) (filtered y.test) (from_good (reading_of tables y.first.0) (map (joining_of tables) (joins_of y.joins)) y.first.1 (every_join y.joins)) (filtered_good y.test))
       (λ s g. selected_fits (parts_of_layer (bare_select y)) s g)
 
   select_step : (y : SelectAst-F AFrom AJoin ASelect) → SelectWell (roll-SelectAst (bare_select y))
   select_step y =
-      subst (λ (s : Selecting). Holds (FitsItems (out-SelectAst (roll-SelectAst (bare_select y))).items) s.select) (sym (select_is schemas (roll-SelectAst (bare_select y))))
+      subst (λ (s : Selecting). Holds (FitsItems (out-SelectAst (roll-SelectAst (bare_select y))).items) s.select) (sym (select_is tables (roll-SelectAst (bare_select y))))
       (subst SelectsWell (sym (out-roll-SelectAst (bare_select y))) (layer_step y))
 
   pub selects_well : (s : SelectAst) → SelectWell s

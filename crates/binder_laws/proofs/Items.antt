@@ -18,13 +18,17 @@ use Rattle.expr_binder.specs.Typed.{Kinded, settled, tested}
 use Rattle.expr_binder.specs.Groups.{Groups}
 use Rattle.expr_binder.specs.Meaning.{meaning, place_of}
 use Rattle.join_lowering.specs.Keys.{columns as columns_of}
-use Rattle.sql_binder.specs.declared.items.Output.{Output}
+use Rattle.logical_build.specs.declared.outputs.Output.{Output}
+use Rattle.logical_build.specs.Calls.{argument, of_column, numbered, arguments_of}
+use Rattle.logical_build.specs.Groups.{columns_from, first_columns, key_kinds, aggregated, kept, exprs as key_exprs}
+use Rattle.logical_build.specs.Outputs.{exprs, distinct_if}
 use Rattle.sql_binder.specs.declared.selected.Selected.{Selected}
+use Rattle.sql_binder.specs.declared.clauses.Clauses.{Clauses}
 use Rattle.sql_binder.specs.declared.sources.Source.{Source}
-use Rattle.sql_binder.specs.Items.{outputs, exprs}
-use Rattle.sql_binder.specs.Grouped.{is_number, key, keys, calls, is_grouped, argument, of_column, numbered, arguments_of, settled_expr, arguments, columns_from, first_columns, key_kinds, aggregated, having, exprs as key_exprs}
+use Rattle.sql_binder.specs.Items.{outputs}
+use Rattle.sql_binder.specs.Grouped.{is_number, key, keys, calls, is_grouped, settled_expr, arguments, having}
 use Rattle.sql_binder.specs.Orders.{item_tests}
-use Rattle.sql_binder.specs.Selects.{Parts, distinct_if, projected, plain, over_keys, groups_body, over_groups, grouped, selected}
+use Rattle.sql_binder.specs.Selects.{Parts, projected, plain, over_keys, clauses, groups_body, grouped, selected}
 use Rattle.physical_plan.proofs.Everywhere.{both_true}
 use Rattle.planned_laws.specs.Ranges.{are_below, call_column, call_columns, expr_columns}
 use Rattle.planned_laws.specs.Queries.{body_width, body_in_range}
@@ -162,12 +166,22 @@ aggregated_stands columns body ks args found k r h = (
     wide : body_width (plan.Project body (key_exprs ks ++ args)) ≡ length ks + length args
     wide = width-Project body (key_exprs ks ++ args) ∙ length-append (key_exprs ks) args ∙ ap (λ (x : ℕ). x + length args) (length-map ks _)
 
-having_stands : (columns : Columns) (g : Groups) (w : ℕ) → w ≡ length g.keys + length g.calls → (test : Option ExprAst) (body : Logical) → HavingFound columns g.calls test → Stands w body → Holds (Stands w) (having columns (Some g) test body)
-having_stands columns g w q None body f h = h
-having_stands columns g w q (Some e) body f h =
-    after (Reads w) (Stands w) (meaning columns e (Some g) >>= tested (place_of e)) (λ test. Ok (plan.Filter body test))
+abbrev TestReads : ℕ → Option Expr → Type 0
+TestReads w None = Unit {0}
+TestReads w (Some e) = Reads w e
+
+test_reads : (columns : Columns) (g : Groups) (w : ℕ) → w ≡ length g.keys + length g.calls → (test : Option ExprAst)
+    → HavingFound columns g.calls test → Holds (TestReads w) (having columns (Some g) test)
+test_reads columns g w q None f = tt
+test_reads columns g w q (Some e) f =
+    after (Reads w) (TestReads w) (meaning columns e (Some g) >>= tested (place_of e)) (λ test. Ok (Some test))
     (after (Typing w) (Reads w) (meaning columns e (Some g)) (tested (place_of e)) (subst (λ (x : ℕ). Holds (Typing x) (meaning columns e (Some g))) (sym q) (means_over columns g e f)) (tested_reads w (place_of e)))
-    (λ test r. (holds-Filter body test (ap (λ (x : ℕ). are_below x (columns_of test)) h.1 ∙ r) h.0, width-Filter body test ∙ h.1))
+    (λ test r. r)
+
+kept_stands : (w : ℕ) (test : Option Expr) (body : Logical) → TestReads w test → Stands w body → Stands w (kept test body)
+kept_stands w None body r h = h
+kept_stands w (Some test) body r h =
+    (holds-Filter body test (ap (λ (x : ℕ). are_below x (columns_of test)) h.1 ∙ r) h.0, width-Filter body test ∙ h.1)
 
 -- the calls of the items and of HAVING are among those that were found
 abbrev AllFound : Columns → Parts → List ExprAst → Type 0
@@ -180,8 +194,10 @@ module _ (p : Parts) (found : List ExprAst) (columns : Columns) (f : AllFound co
   abbrev w : ℕ
   w = length p.groups + length found
 
-  abbrev Grouping : List Output × Logical → Type 0
-  Grouping g = Outputs w (length (item_tests columns p.items)) g.0 × Stands w g.1
+  -- keys that read the columns, and items and a test that read the groups
+  abbrev ClausesRead : Clauses → Type 0
+  ClausesRead c = AreSo (KeyReads (length columns)) (length p.groups) c.keys
+      × (Outputs w (length (item_tests columns p.items)) c.outputs × TestReads w c.test)
 
   abbrev rows : Logical → List Kinded → List Expr → Logical
   rows body ks args = aggregated body ks args (numbered (length ks) (map argument found))
@@ -193,22 +209,22 @@ module _ (p : Parts) (found : List ExprAst) (columns : Columns) (f : AllFound co
       let n : length ks + length (map argument found) ≡ length p.groups + length found = omega arith in
       subst (λ (x : ℕ). Stands x (rows body ks args)) n (aggregated_stands columns body ks args (map argument found) k.1 m h)
 
-  groups_stand : (ks : List Kinded) → AreSo (KeyReads (length columns)) (length p.groups) ks → (body : Logical) → Stands (length columns) body → Holds (Stands w) (groups_body p found columns ks body)
-  groups_stand ks k body h =
-      after (AreSo (Reads (length columns)) (length (arguments_of (map argument found)))) (Stands w) (arguments columns (map argument found)) (λ args. having columns (over_keys p columns found ks) p.having (rows body ks args)) (arguments_read columns (map argument found))
-      (λ args m. having_stands columns (groups_of p found ks) w refl p.having (rows body ks args) f.1 (rows_stand body ks args k m h))
-
-  groups_fit : (body : Logical) → Stands (length columns) body → Holds Grouping (over_groups p found columns body)
-  groups_fit body h =
-      after (AreSo (KeyReads (length columns)) (length p.groups)) Grouping (keys columns p.groups) _ (keys_read columns p.groups) (λ ks k.
-      after (Outputs w (length (item_tests columns p.items))) Grouping (outputs columns (over_keys p columns found ks) p.items) _
+  clauses_read : Holds ClausesRead (clauses p found columns)
+  clauses_read =
+      after (AreSo (KeyReads (length columns)) (length p.groups)) ClausesRead (keys columns p.groups) _ (keys_read columns p.groups) (λ ks k.
+      after (Outputs w (length (item_tests columns p.items))) ClausesRead (outputs columns (over_keys p columns found ks) p.items) _
       (outputs_read columns (Some (groups_of p found ks)) w (group_wide columns (groups_of p found ks)) p.items (group_items columns (groups_of p found ks) p.items f.0)) (λ os n.
-      after (Stands w) Grouping (groups_body p found columns ks body) (λ groups. Ok (os, groups)) (groups_stand ks k body h) (λ b i. (n, i))))
+      after (TestReads w) ClausesRead (having columns (over_keys p columns found ks) p.having) _
+      (test_reads columns (groups_of p found ks) w refl p.having f.1) (λ test t. (k, (n, t)))))
 
-  grouped_fits : (s : Source) → s.columns ≡ columns → Sourced s → Holds (FitsItems p.items) (over_groups p found columns s.body >>= λ g. Ok (projected p.distinct columns g.0 g.1))
+  grouped_fits : (s : Source) → s.columns ≡ columns → Sourced s
+      → Holds (FitsItems p.items) (clauses p found columns >>= λ c. arguments columns (map argument found) >>= λ args.
+      Ok (projected p.distinct columns c.outputs (groups_body found c.keys c.test args s.body)))
   grouped_fits s q h =
-      after Grouping (FitsItems p.items) (over_groups p found columns s.body) (λ g. Ok (projected p.distinct columns g.0 g.1)) (groups_fit s.body (h.0, h.1 ∙ ap (λ (cs : Columns). length cs) q))
-      (λ g i. projected_fits p.distinct columns p.items g.0 g.1 w i.0 i.1.0 i.1.1)
+      after ClausesRead (FitsItems p.items) (clauses p found columns) _ clauses_read (λ c i.
+      after (AreSo (Reads (length columns)) (length (arguments_of (map argument found)))) (FitsItems p.items) (arguments columns (map argument found)) _ (arguments_read columns (map argument found)) (λ args m.
+      let stands = kept_stands w c.test (rows s.body c.keys args) i.1.1 (rows_stand s.body c.keys args i.0 m (h.0, h.1 ∙ ap (λ (cs : Columns). length cs) q)) in
+      projected_fits p.distinct columns p.items c.outputs (groups_body found c.keys c.test args s.body) w i.1.0 stands.0 stands.1))
 
 pub selected_fits : (p : Parts) (s : Source) → Sourced s → Holds (FitsItems p.items) (selected p s)
 selected_fits p s h = go (is_grouped p.groups p.having (calls s.columns p.items p.having))

@@ -13,7 +13,7 @@ use Rattle.expr_binder.specs.Answer.{Answer, refuse}
 use Rattle.expr_binder.specs.Literals.{has_point}
 use Rattle.expr_binder.specs.Scopes.{is_text}
 use Rattle.expr_binder.specs.Meaning.{place_of}
-use Rattle.sql_binder.specs.Orders.{Single, item_tests, first_from, place_from, item_of, named_from, named_or, whole, position, column_of_key, sort_key, key_of, order}
+use Rattle.sql_binder.specs.Orders.{Single, item_tests, first_from, number_from, item_of, named_from, named_or, whole, position, column_of_key, sort_key, key_of, order}
 use Rattle.physical_plan.proofs.Everywhere.{both_true, and_parts}
 use Rattle.planned_laws.specs.Ranges.{are_below, key_columns}
 use Rattle.binder_laws.proofs.Holding.{Holds, after, where_some, weaker, Every, AreSo, each_holds, every_of}
@@ -42,7 +42,7 @@ module _ (names : List (List ℕ)) (single : Option Single) (many : (s : Single)
   IsColumn c = c < length names
 
   item_column : (e : ExprAst) → (o : Option Single) → single ≡ o → Holds IsColumn (item_of o e)
-  unfolding place_from
+  unfolding number_from
   item_column e None q = tt
   item_column e (Some s) q =
       where_some IsColumn why.Unsupported (place_of e) (first_from 0 (item_tests s.0 s.1) e)

@@ -13,9 +13,10 @@ use Rattle.expr_binder.specs.Typed.{settled}
 use Rattle.expr_binder.specs.Groups.{Groups, Over}
 use Rattle.expr_binder.specs.Meaning.{meaning}
 use Rattle.join_lowering.specs.Keys.{columns as columns_of}
-use Rattle.sql_binder.specs.declared.items.Output.{Output}
+use Rattle.logical_build.specs.declared.outputs.Output.{Output}
+use Rattle.logical_build.specs.Outputs.{exprs}
 use Rattle.sql_binder.specs.Each.{each}
-use Rattle.sql_binder.specs.Items.{star, of_key, key_from, name_at, stars, given, is_given, is_column, expr_output, item_name, output, outputs_of, outputs_after, outputs, exprs}
+use Rattle.sql_binder.specs.Items.{star, of_key, key_from, name_at, stars, given, is_given, is_column, expr_output, item_name, output, outputs_of, are_too_many, width_of, place_of_item, outputs_behind, outputs_after, outputs}
 use Rattle.sql_binder.specs.Orders.{tests_of, column_tests, item_tests}
 use Rattle.physical_plan.proofs.Everywhere.{both_true, and_parts}
 use Rattle.planned_laws.specs.Ranges.{are_below, expr_columns}
@@ -83,8 +84,8 @@ module _ (columns : Columns) (over : Over) (w : ℕ) where
     after_read : (items : List ItemAst) → Every ItemReads items → (done : List Output) → Every (OutputReads w) done → Holds (Outputs w (length done + length (item_tests columns items))) (outputs_after columns over done items)
     after_read [] h done d = ((omega arith), d)
     after_read (i ∷ is) h done d =
-        after (Outputs w (length (tests_of columns i))) (Outputs w (length done + length (item_tests columns (i ∷ is)))) (outputs_of columns over (suc (length done)) i) (λ os. outputs_after columns over (done ++ os) is)
-        (outputs_of_read (suc (length done)) i h.0)
+        after (Outputs w (length (tests_of columns i))) (Outputs w (length done + length (item_tests columns (i ∷ is)))) (outputs_behind columns over (length done) i) (λ os. outputs_after columns over (done ++ os) is)
+        (unless (Outputs w (length (tests_of columns i))) (are_too_many (length done + width_of columns i)) why.Unsupported (place_of_item i) (outputs_of columns over (suc (length done)) i) (outputs_of_read (suc (length done)) i h.0))
         (λ os r.
         let a = length-append done os in
         let b = length-append (tests_of columns i) (item_tests columns is) in

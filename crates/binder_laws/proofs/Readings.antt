@@ -74,9 +74,10 @@ module _ (w : ℕ) where
   parts_read k (t ∷ ts) h = below_append w (columns (as_kind k t)) _ (as_kind_reads k t h.0) (parts_read k ts h.1)
 
   pub coalesced_reads : (place : ℕ) (ts : List Typed) → Every Typing ts → Holds Typing (coalesced place ts)
-  coalesced_reads place ts h =
-      whatever Typing (or_mismatch place (common ts)) (λ k. Ok (typed.Of (expr.Coalesce (map (as_kind k) ts)) k))
-      (λ k. ap (are_below w) (columns-Coalesce (map (as_kind k) ts)) ∙ parts_read k ts h)
+  coalesced_reads place [] h = tt
+  coalesced_reads place (t ∷ ts) h =
+      whatever Typing (or_mismatch place (common (t ∷ ts))) (λ k. Ok (typed.Of (expr.Coalesce (map (as_kind k) (t ∷ ts))) k))
+      (λ k. ap (are_below w) (columns-Coalesce (map (as_kind k) (t ∷ ts))) ∙ parts_read k (t ∷ ts) h)
 
   abbrev pub ArmReads : Arm → Type 0
   ArmReads arm = Typing arm.test × Typing arm.result

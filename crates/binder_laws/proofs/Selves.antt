@@ -42,7 +42,7 @@ truth_self : (b : Bool) → same_truth b b ≡ true
 truth_self true = refl
 truth_self false = refl
 
-kind_self : (k : Kind) → same_kind k k ≡ true
+pub kind_self : (k : Kind) → same_kind k k ≡ true
 kind_self kind.Bool = refl
 kind_self kind.Int = refl
 kind_self (kind.Dec p s) = both_true _ _ (nat_self p) (nat_self s)

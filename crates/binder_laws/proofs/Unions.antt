@@ -9,7 +9,8 @@ use Rattle.expr_binder.specs.declared.refusal.Why.TheVariants as why
 use Rattle.expr_binder.specs.Typed.{unified}
 use Rattle.sql_binder.specs.declared.selected.Selected.{Selected}
 use Rattle.sql_binder.specs.Each.{each}
-use Rattle.sql_binder.specs.Unions.{Placed, unified_after, all_unified, unified_with, common_kinds, are_same, cast, casts, cast_if, with_kinds, bodies, union_body, united_with, united}
+use Rattle.logical_build.specs.Unions.{unified_after, all_unified, are_same, cast, casts, cast_if, with_kinds}
+use Rattle.sql_binder.specs.Unions.{Placed, unified_with, common_kinds, bodies, union_body, united_with, united}
 use Rattle.sql_binder.specs.Selects.{Selecting, placed, union_of}
 use Rattle.physical_plan.specs.Everywhere.{all_true}
 use Rattle.physical_plan.proofs.Everywhere.{both_true}

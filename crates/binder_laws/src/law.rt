@@ -1,7 +1,7 @@
 ghost use Rattle.std.specs.Prelude.{ℕ, ◌≡◌, List, length, Ok};
 ghost use Rattle.logical_plan.specs.declared.query.Query.{Query as AQuery};
 ghost use Rattle.sql_grammar.specs.declared.ast.Script.{Script as AScript};
-ghost use Rattle.sql_binder.specs.declared.schema.Schema.{Schema as ASchema};
+ghost use Rattle.sql_tables.specs.declared.schema.Schema.{Schema as ASchema};
 ghost use Rattle.sql_binder.specs.Bound.{bound};
 ghost use Rattle.physical_build.specs.Build.{build};
 ghost use Rattle.enforce_dist.specs.Distribute.{enforce_distribution};

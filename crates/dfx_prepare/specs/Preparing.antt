@@ -13,7 +13,8 @@ use Rattle.sql_grammar.specs.declared.refused.SyntaxRefused.{SyntaxRefused}
 use Rattle.expr_binder.specs.Answer.{Answer}
 use Rattle.sql_binder.specs.Bound.{bound}
 use Rattle.sql_binder.specs.Refusals.{named}
-use Rattle.sql_binder.specs.declared.schema.Schema.{Schema}
+use Rattle.sql_tables.specs.Tables.{declared}
+use Rattle.sql_tables.specs.declared.schema.Schema.{Schema}
 use Rattle.logical_plan.specs.declared.query.Query.{Query}
 use Rattle.physical_plan.specs.declared.plan.Plan.{Plan}
 use Rattle.physical_build.specs.Build.{build}
@@ -62,10 +63,9 @@ files_of all [] = Ok []
 files_of all (t ∷ ts) =
     followed (table_files all t) (λ paths. followed (files_of all ts) (λ more. Ok (paths ∷ more)))
 
--- a table as its statement declares it
+-- the columns of a table as its statement declares them
 abbrev pub schema_of : TableAst → Schema
-schema_of t =
-    record { table = t.name; names = map (λ c. c.0) t.columns; kinds = map (λ c. c.1) t.columns }
+schema_of t = declared t.columns
 
 abbrev pub of_bound : Answer Query → Result Query Failure
 of_bound (Ok q) = Ok q

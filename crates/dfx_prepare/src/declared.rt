@@ -3,51 +3,18 @@
 ghost use Rattle.std.specs.Prelude.{◌≡◌, IfOk, length, map};
 ghost use Rattle.dfx_prepare.specs.Preparing as spec;
 
-use dfx_value::{Kind, NoMemory, Seq, Text};
-use sql_binder::Schema;
+use dfx_value::{NoMemory, Seq, Text};
 use sql_grammar::ast::TableAst;
+use sql_tables::Schema;
 use std::alloc::Global;
 
-fn names_of(alloc: Global, columns: &[(Text, Kind)]) -> Result<Seq<Text>, NoMemory>
-    ensures { IfOk result (λ names. names ≡ map (λ c. c.0) columns.now) }
-{
-    let mut names = Vec::with_capacity(alloc, columns.len())?;
-    for column in columns {
-        names.push(column.0.copy(alloc)?)?;
-    }
-    Ok(Seq::from_vec(names))
-}
-
-fn kinds_of(alloc: Global, columns: &[(Text, Kind)]) -> Result<Seq<Kind>, NoMemory>
-    ensures { IfOk result (λ kinds. kinds ≡ map (λ c. c.1) columns.now) }
-{
-    let mut kinds = Vec::with_capacity(alloc, columns.len())?;
-    for column in columns {
-        kinds.push(column.1)?;
-    }
-    Ok(Seq::from_vec(kinds))
-}
-
-fn schema_of(alloc: Global, table: &TableAst) -> Result<Schema, NoMemory>
-    ensures { IfOk result (λ schema. schema ≡ spec.schema_of table.now) }
-{
-    let columns = table.columns.as_slice();
-    let names = names_of(alloc, columns)?;
-    let kinds = kinds_of(alloc, columns)?;
-    Ok(Schema {
-        table: table.name.copy(alloc)?,
-        names,
-        kinds,
-    })
-}
-
-/// The tables as their statements declare them.
+/// The columns of the tables as their statements declare them.
 pub fn schemas_of(alloc: Global, tables: &[TableAst]) -> Result<Vec<Schema>, NoMemory>
     ensures { IfOk result (λ schemas. schemas.items ≡ map spec.schema_of tables.now) }
 {
     let mut schemas = Vec::with_capacity(alloc, tables.len())?;
     for table in tables {
-        schemas.push(schema_of(alloc, table)?)?;
+        schemas.push(Schema::declared(alloc, table.columns.as_slice())?)?;
     }
     Ok(schemas)
 }

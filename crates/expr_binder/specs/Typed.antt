@@ -14,7 +14,7 @@ use Rattle.expr_binder.specs.declared.typed.Typed.{Typed}
 use Rattle.expr_binder.specs.declared.typed.Typed.TheVariants as typed
 use Rattle.expr_binder.specs.declared.typed.Unary.{Unary}
 use Rattle.expr_binder.specs.declared.typed.Unary.TheVariants as operator
-use Rattle.expr_binder.specs.Answer.{Answer, ◌>>=◌, or_refuse}
+use Rattle.expr_binder.specs.Answer.{Answer, ◌>>=◌, refuse, or_refuse}
 
 -- an expression with its kind
 abbrev pub Kinded : Type 0
@@ -122,7 +122,9 @@ as_kind k (typed.Of e j) = if same j k then e else expr.Cast e k
 
 -- ---- COALESCE and CASE
 
+-- there is one part at least
 abbrev pub coalesced : ℕ → List Typed → Answer Typed
+coalesced place [] = refuse why.KindMismatch place
 coalesced place parts = or_mismatch place (common parts) >>= λ k. Ok (typed.Of (expr.Coalesce (map (as_kind k) parts)) k)
 
 -- a test, with its place, must be a truth

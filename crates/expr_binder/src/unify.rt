@@ -4,7 +4,7 @@ ghost use Rattle.std.specs.Prelude.{◌≡◌, ◌++◌, ◌∷◌, [], IfOk, ma
 ghost use Rattle.expr_binder.specs.Answer as answer;
 ghost use Rattle.expr_binder.specs.Typed as spec;
 
-use crate::refusal::Unbound;
+use crate::refusal::{Unbound, Why};
 use crate::typed::{Typed, or_mismatch};
 use dfx_value::{Kind, NoMemory, Value};
 use scalar_exprs::{Expr, same, widest};
@@ -127,10 +127,13 @@ fn all_as(alloc: Global, kind: Kind, mut parts: Items<Typed>) -> Result<Items<Ex
     reversed(alloc, backwards)
 }
 
-/// COALESCE.
+/// COALESCE, of one part at least.
 pub fn coalesced(alloc: Global, place: u32, parts: Items<Typed>) -> Result<Typed, Unbound>
     ensures { answer.Gives result (spec.coalesced place parts) }
 {
+    if parts.is_empty() {
+        return Err(Unbound::refused(Why::KindMismatch, place));
+    }
     let kind = or_mismatch(place, common(parts.as_slice()))?;
     let parts = all_as(alloc, kind, parts)?;
     Ok(Typed::Of(Expr::Coalesce(parts), kind))

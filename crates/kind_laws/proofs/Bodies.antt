@@ -28,7 +28,7 @@ use Rattle.kind_laws.proofs.Nodes.{filter_gives, project_gives, join_gives, aggr
 
 -- ---- kinds that are the same
 
-same_is : (j k : Kind) → same j k ≡ true → j ≡ k
+pub same_is : (j k : Kind) → same j k ≡ true → j ≡ k
 same_is kind.Bool kind.Bool e = refl
 same_is kind.Int kind.Int e = refl
 same_is (kind.Dec p s) (kind.Dec q t) e = let both = and_parts (eqb p q) (eqb s t) e in ap (λ n. kind.Dec n s) (eqb-true p q both.0) ∙ ap (kind.Dec q) (eqb-true s t both.1)

@@ -59,7 +59,7 @@ decimal_fits p s t = parts_fit p s (negative t) (whole (unsigned t)) (fraction (
 
 -- ---- fields
 
-abbrev ValueFits : Kind → Option Value → Type 0
+abbrev pub ValueFits : Kind → Option Value → Type 0
 ValueFits k (Some v) = is_of k v ≡ true
 ValueFits k None = ⊤
 
@@ -81,7 +81,7 @@ filled_fits kind.Text t = go (is_utf8 t) where
   go true = refl
   go false = tt
 
-parsed_fits : (k : Kind) (t : List ℕ) → ValueFits k (parsed k t)
+pub parsed_fits : (k : Kind) (t : List ℕ) → ValueFits k (parsed k t)
 parsed_fits k [] = null_is_of k
 parsed_fits k (b ∷ t) = filled_fits k (b ∷ t)
 

@@ -2,7 +2,7 @@ mod Rows
 mod Values
 mod Nodes
 pub mod Bodies
-mod Fields
+pub mod Fields
 pub mod Files
 pub mod KindedSteps
 pub mod Worked

@@ -16,6 +16,9 @@ use Rattle.planned_laws.specs.Wholly.{IsWhollyPlanned}
 use Rattle.planned_laws.proofs.Facts.{all_needs_ranged}
 use Rattle.planned_laws.proofs.Wholly.{wholly_planned}
 use Rattle.binder_laws.proofs.Bounds.{bound_in_range}
+use Rattle.binder_kind_laws.specs.Scripts.{declared_kinds}
+use Rattle.binder_kind_laws.proofs.Bounds.{declared_kinded}
+use Rattle.binder_kind_laws.proofs.Spelled.{spelled}
 use Rattle.logical_plan.specs.Allowed.{Allowed}
 use Rattle.logical_plan.specs.Body.{all_faults, Tables}
 use Rattle.kind_laws.specs.Kinded.{is_well_kinded}
@@ -41,7 +44,7 @@ use Rattle.fault_laws.proofs.Laws.{at_file}
 use Rattle.state_laws.specs.Good.{Good}
 use Rattle.state_laws.proofs.Laws as good_states
 use Rattle.query_laws.specs.Runs.{Setting, csv_tables, tables_in, IsSetting, doing_in, LeadsTo}
-use Rattle.query_laws.proofs.Prepared.{IsOf, is_of, kinds_are, counts_are}
+use Rattle.query_laws.proofs.Prepared.{IsOf, spells, is_of, kinds_are, counts_are}
 
 module _ (r : Setting) (is : IsSetting r) where
   abbrev p : Prepared
@@ -62,10 +65,14 @@ module _ (r : Setting) (is : IsSetting r) where
   abbrev doing : Doing
   doing = doing_in r
 
+  -- its query is well-kinded over the tables that the script declares
+  kinded : is_well_kinded (map declared_kinds r.script.tables) p.query.body ≡ true
+  kinded = let t = spells r.text r.script is.spelled in (declared_kinded r.script p.query (spelled r.text t.0 r.script t.1) made.query).body
+
   met : (has_distincts tables p.query.body ≡ true) × (is_known tables files p.query.body ≡ true)
   met =
       let ts = csv_tables r.script.tables p.paths in
-      let k : is_well_kinded (table_kinds ts) p.query.body ≡ true = ap (λ ks. is_well_kinded ks p.query.body) (kinds_are r.script.tables p.paths made.each) ∙ is.kinded in
+      let k : is_well_kinded (table_kinds ts) p.query.body ≡ true = ap (λ ks. is_well_kinded ks p.query.body) (kinds_are r.script.tables p.paths made.each) ∙ kinded in
       let m = csv_met r.contents ts p.query.body k in
       (m.0, subst (λ (ns : List ℕ). is_known tables ns p.query.body ≡ true) (counts_are r.script.tables p.paths made.each) m.1)
 

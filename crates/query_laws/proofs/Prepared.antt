@@ -1,12 +1,17 @@
 -- What a script is prepared to: its bound query, with its plan, over as many lists of files as it has tables.
 use Rattle.std.proofs.Common.{ℕ, suc, ◌+◌, ◌≡◌, refl, sym, ap, ◌∙◌, List, [], ◌∷◌, length, map, Result, Ok, Err, subst, arith}
 use Rattle.dfx_outside.specs.Contents.{Contents}
+use Rattle.sql_lexer.specs.Tokens.{Tokens}
+use Rattle.sql_lexer.specs.declared.token.Token.{Token}
+use Rattle.sql_lexer.specs.declared.refused.LexRefused.{LexRefused}
+use Rattle.sql_grammar.specs.Parsed.{parsed}
+use Rattle.sql_grammar.specs.declared.refused.SyntaxRefused.{SyntaxRefused}
 use Rattle.sql_grammar.specs.declared.ast.Script.{Script}
 use Rattle.sql_grammar.specs.declared.ast.TableAst.{TableAst}
 use Rattle.expr_binder.specs.Answer.{Answer}
 use Rattle.sql_binder.specs.Bound.{bound}
 use Rattle.logical_plan.specs.declared.query.Query.{Query}
-use Rattle.dfx_prepare.specs.Preparing.{Path, schema_of, script_of, of_bound, query_of, plan_of, table_files, followed, files_of, with_files, prepared_over, prepared_script, prepared}
+use Rattle.dfx_prepare.specs.Preparing.{Path, schema_of, of_parsed, of_tokens, script_of, of_bound, query_of, plan_of, table_files, followed, files_of, with_files, prepared_over, prepared_script, prepared}
 use Rattle.failure_text.specs.declared.failure.Failure.{Failure}
 use Rattle.dfx_prepare.specs.declared.prepared.Prepared.{Prepared}
 use Rattle.kind_laws.specs.Tables.{table_kinds, file_counts}
@@ -54,6 +59,21 @@ of_files all n script p (Err refusal) e h = cc
 
 pub is_of : (text : List ℕ) (all : Contents) (n : ℕ) (script : Script) (p : Prepared) → script_of text ≡ Ok script → prepared text all n ≡ Ok p → IsOf script n p
 is_of text all n script p s e = of_files all n script p (files_of all script.tables) refl (sym (ap (λ r. followed r (prepared_script all n)) s) ∙ e)
+
+-- ------------------------------------------------------------ its tokens
+
+of_tokens_is : (text : List ℕ) (script : Script) (r : Result (List Token) LexRefused) → of_tokens text r ≡ Ok script → (tokens : List Token) × (parsed text tokens ≡ Ok script)
+of_tokens_is text script (Ok tokens) e = (tokens, go (parsed text tokens) e)
+  where
+    go : (r : Result Script SyntaxRefused) → of_parsed r ≡ Ok script → r ≡ Ok script
+    go (Ok s) e = let a : s ≡ script = cc in ap Ok a
+    go (Err refused) e = cc
+of_tokens_is text script (Err refused) e = cc
+
+-- the tokens of a text that spells a script are parsed to it
+pub spells : (text : List ℕ) (script : Script) → script_of text ≡ Ok script → (tokens : List Token) × (parsed text tokens ≡ Ok script)
+unfolding script_of
+spells text script e = of_tokens_is text script (Tokens text) e
 
 -- ------------------------------------------------------------ its tables
 

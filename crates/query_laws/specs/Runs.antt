@@ -1,5 +1,5 @@
 -- Meaning: runs of the query that a script is prepared to, over files that tell their bytes.
-use Rattle.std.specs.Prelude.{ℕ, ◌<◌, ◌≡◌, true, Ok, List, [], ◌∷◌, map}
+use Rattle.std.specs.Prelude.{ℕ, ◌<◌, ◌≡◌, Ok, List, [], ◌∷◌}
 use Rattle.dfx_outside.specs.Contents.{Contents}
 use Rattle.run_journal.specs.declared.entry.Entry.{Entry}
 use Rattle.plan_props.specs.Meets.{Hashing, IsHash}
@@ -12,7 +12,6 @@ use Rattle.logical_plan.specs.Body.{Tables}
 use Rattle.scan_run.specs.Sources.{CsvTable, tables_from}
 use Rattle.dfx_prepare.specs.Preparing.{Path, schema_of, script_of, prepared}
 use Rattle.dfx_prepare.specs.declared.prepared.Prepared.{Prepared}
-use Rattle.kind_laws.specs.Kinded.{is_well_kinded}
 use Rattle.tree_laws.specs.Runs.{State}
 use Rattle.tree_laws.specs.Settles.{Leads}
 use Rattle.plan_tasks.specs.Trees.{Doing}
@@ -43,14 +42,12 @@ csv_tables _ _ = []
 abbrev pub tables_in : Setting → Tables
 tables_in r = tables_from r.contents 0 (csv_tables r.script.tables r.made.paths)
 
--- the text spells the script, which is prepared so, for at least one partition; equal keys have one hash; and the query is
--- well-kinded over its tables
+-- the text spells the script, which is prepared so, for at least one partition; and equal keys have one hash
 pub record IsSetting (r : Setting) : Type 0 where
   pub some : 0 < r.partitions
   pub spelled : script_of r.text ≡ Ok r.script
   pub ready : prepared r.text r.contents r.partitions ≡ Ok r.made
   pub same_hash : IsHash r.hash
-  pub kinded : is_well_kinded (map (λ t. (schema_of t).kinds) r.script.tables) r.made.query.body ≡ true
 
 -- what the plan's nodes do: their meanings, with rows sent by the hash
 abbrev pub doing_in : Setting → Doing

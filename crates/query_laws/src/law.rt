@@ -16,7 +16,7 @@ ghost use Rattle.query_laws.specs.Runs.{Setting, IsSetting, tables_in, doing_in,
 
 /// Every run of the plan to which a script is prepared, over files that tell their bytes, whatever its entries are, as
 /// long as they are legal: for any number of partitions above 0, any batch size, any limit, any hash that equal keys have
-/// in common, and whatever rows reserve. The one premise on the query is that it is well-kinded.
+/// in common, and whatever rows reserve.
 ///
 /// Every state that entries lead to is good (`good`). Where the root has finished, its output is an answer that the query
 /// allows (`answer`). And where the last entry says that the run failed, by anything but a device, memory or a

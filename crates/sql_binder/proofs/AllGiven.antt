@@ -7,15 +7,15 @@ use Rattle.dfx_value.specs.declared.kind.Kind.TheVariants as kind
 use Rattle.sql_grammar.specs.declared.ast.ExprAst.{ExprAst}
 use Rattle.expr_binder.specs.declared.scope.Column.{Column}
 use Rattle.expr_binder.specs.Scopes.{Columns, numbers_from}
-use Rattle.sql_binder.specs.Items.{is_given, is_column}
+use Rattle.sql_binder.specs.Items.{is_given, given, is_column}
 use Rattle.sql_binder.specs.Orders.{column_tests, first_from}
 
-given_all : (f : ℕ → ExprAst → Bool) (k : ℕ) (cs : Columns) → length (map f (numbers_from (is_given None) k cs)) ≡ length cs
-given_all f k [] = refl
-given_all f k (c ∷ cs) = ap suc (given_all f (suc k) cs)
+given_all : (k : ℕ) (cs : Columns) → length (numbers_from (is_given None) k cs) ≡ length cs
+given_all k [] = refl
+given_all k (c ∷ cs) = ap suc (given_all (suc k) cs)
 
-pub all_given : (cs : Columns) → length (column_tests cs None) ≡ length cs
-all_given cs = given_all (is_column cs) 0 cs
+pub all_given : (cs : Columns) → length (given None cs) ≡ length cs
+all_given cs = given_all 0 cs
 
 -- ---- the first column that an expression is
 

@@ -1,4 +1,4 @@
--- Meaning: the query of a script over tables of these schemas, or the first refusal.
+-- Meaning: the query of a script, or the first refusal. Each table has a schema, that of its files.
 use Rattle.std.specs.Prelude.{ℕ, Option, Some, None, List, [], ◌∷◌, map, Ok}
 use Rattle.logical_plan.specs.declared.query.Query.{Query}
 use Rattle.sql_grammar.specs.declared.ast.Script.{Script}
@@ -6,11 +6,11 @@ use Rattle.sql_grammar.specs.declared.ast.SelectAst.{SelectAst}
 use Rattle.sql_grammar.specs.declared.ast.FromAst.TheViews.{out-SelectAst}
 use Rattle.expr_binder.specs.Answer.{Answer, ◌>>=◌}
 use Rattle.expr_binder.specs.Scopes.{Columns}
-use Rattle.sql_binder.specs.declared.schema.Schema.{Schema}
+use Rattle.sql_tables.specs.declared.schema.Schema.{Schema}
 use Rattle.sql_binder.specs.declared.selected.Selected.{Selected}
 use Rattle.sql_binder.specs.Orders.{Single, order, limit, offset}
 use Rattle.sql_binder.specs.Selects.{select, union_of}
-use Rattle.sql_binder.specs.Tables.{tables_tested}
+use Rattle.sql_tables.specs.Tables.{tables}
 
 -- the items of the one select
 abbrev pub single : Columns → List SelectAst → Option Single
@@ -25,4 +25,5 @@ query_of script s = order s.names (single s.columns script.parts) script.order >
 
 -- tables, then selects and their union, then ORDER BY, LIMIT and OFFSET
 abbrev pub bound : Script → List Schema → Answer Query
-bound script schemas = tables_tested script.tables schemas >>= λ _. union_of (map (select schemas) script.parts) >>= query_of script
+bound script schemas = tables script.tables schemas >>= λ ts.
+    union_of (map (select ts) script.parts) >>= query_of script

@@ -1,9 +1,8 @@
 -- Meaning: the columns that the items of a select give.
-use Rattle.std.specs.Prelude.{ℕ, suc, ◌+◌, ◌∷◌, ◌++◌, [], List, length, map, codes, Bool, true, false, Option, Some, None, slice_get, Ok, if◌then◌else◌}
+use Rattle.std.specs.Prelude.{ℕ, suc, ◌+◌, ◌∷◌, ◌++◌, [], List, length, map, codes, Bool, true, false, Option, Some, None, slice_get, nat_lt, Ok, if◌then◌else◌}
 use Rattle.std.specs.Fmt.{decimal}
 use Rattle.dfx_value.specs.declared.kind.Kind.{Kind}
 use Rattle.dfx_value.specs.declared.kind.Kind.TheVariants as kind
-use Rattle.scalar_exprs.specs.declared.expr.Expr.{Expr}
 use Rattle.scalar_exprs.specs.declared.expr.Expr.TheVariants as expr
 use Rattle.sql_grammar.specs.declared.ast.ExprAst.{ExprAst}
 use Rattle.sql_grammar.specs.declared.ast.NodeAst.{NodeAst}
@@ -18,8 +17,8 @@ use Rattle.expr_binder.specs.Same.{same_column}
 use Rattle.expr_binder.specs.Scopes.{Columns, column_of, is_unknown, is_under, numbers}
 use Rattle.expr_binder.specs.Typed.{Kinded, settled}
 use Rattle.expr_binder.specs.Groups.{Over, Groups}
-use Rattle.expr_binder.specs.Meaning.{meaning, column_kind}
-use Rattle.sql_binder.specs.declared.items.Output.{Output}
+use Rattle.expr_binder.specs.Meaning.{meaning, column_kind, place_of}
+use Rattle.logical_build.specs.declared.outputs.Output.{Output}
 use Rattle.sql_binder.specs.Each.{each}
 
 -- the name that an expression is, with the alias before it
@@ -95,19 +94,37 @@ outputs_of columns over at (item.All place) = stars columns over place None
 outputs_of columns over at (item.AllOf alias place) = stars columns over place (Some alias)
 outputs_of columns over at (item.One e name) = expr_output columns over at e name >>= λ o. Ok (o ∷ [])
 
+-- ---- all items
+
+-- a select gives no more columns than this
+abbrev pub most_columns : ℕ
+most_columns = 16384
+
+abbrev pub are_too_many : ℕ → Bool
+are_too_many n = nat_lt most_columns n
+
+-- how many columns an item gives
+unfoldable pub width_of : Columns → ItemAst → ℕ
+width_of columns (item.All place) = length (given None columns)
+width_of columns (item.AllOf alias place) = length (given (Some alias) columns)
+width_of columns (item.One e name) = 1
+
+abbrev pub place_of_item : ItemAst → ℕ
+place_of_item (item.All place) = place
+place_of_item (item.AllOf alias place) = place
+place_of_item (item.One e name) = place_of e
+
+-- those of an item behind n others; an item with which they are too many is refused unbound
+abbrev pub outputs_behind : Columns → Over → ℕ → ItemAst → Answer (List Output)
+outputs_behind columns over n i =
+    refuse_if (are_too_many (n + width_of columns i)) why.Unsupported (place_of_item i)
+    (outputs_of columns over (suc n) i)
+
 -- behind those of the items before
 abbrev pub outputs_after : Columns → Over → List Output → List ItemAst → Answer (List Output)
 outputs_after columns over done [] = Ok done
-outputs_after columns over done (i ∷ is) = outputs_of columns over (suc (length done)) i >>= λ os. outputs_after columns over (done ++ os) is
+outputs_after columns over done (i ∷ is) =
+    outputs_behind columns over (length done) i >>= λ os. outputs_after columns over (done ++ os) is
 
 abbrev pub outputs : Columns → Over → List ItemAst → Answer (List Output)
 outputs columns over items = outputs_after columns over [] items
-
-abbrev pub names : List Output → List (List ℕ)
-names = map (λ (o : Output). o.name)
-
-abbrev pub exprs : List Output → List Expr
-exprs = map (λ (o : Output). o.expr)
-
-abbrev pub kinds : List Output → List Kind
-kinds = map (λ (o : Output). o.kind)

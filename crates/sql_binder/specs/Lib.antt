@@ -1,5 +1,4 @@
 pub mod Each
-pub mod Tables
 pub mod Sources
 pub mod Items
 pub mod Grouped

@@ -48,21 +48,18 @@ abbrev pub first_from : ℕ → List (ExprAst → Bool) → ExprAst → Option �
 first_from k [] e = None
 first_from k (is ∷ more) e = if is e then Some k else first_from (suc k) more e
 
--- the first of an item's columns that an expression is, and how many there are
-unfoldable pub place_in : Columns → ItemAst → ExprAst → Option ℕ
-place_in columns i e = first_from 0 (tests_of columns i) e
-
-unfoldable pub width_of : Columns → ItemAst → ℕ
-width_of columns i = length (tests_of columns i)
+-- the first of an item's columns that an expression is
+unfoldable pub number_in : Columns → ItemAst → ExprAst → Option ℕ
+number_in columns i e = first_from 0 (tests_of columns i) e
 
 -- the first of the columns of all items, counted from k on
-unfoldable pub place_from : Columns → ℕ → List ItemAst → ExprAst → Option ℕ
-place_from columns k is e = first_from k (item_tests columns is) e
+unfoldable pub number_from : Columns → ℕ → List ItemAst → ExprAst → Option ℕ
+number_from columns k is e = first_from k (item_tests columns is) e
 
 -- the first item that a key equals
 abbrev pub item_of : Option Single → ExprAst → Answer ℕ
 item_of None e = refuse why.Unsupported (place_of e)
-item_of (Some s) e = or_refuse why.Unsupported (place_of e) (place_from s.0 0 s.1 e)
+item_of (Some s) e = or_refuse why.Unsupported (place_of e) (number_from s.0 0 s.1 e)
 
 abbrev pub named_from : ℕ → List ℕ → List (List ℕ) → List ℕ
 named_from k name [] = []

@@ -1,7 +1,6 @@
 -- Meaning: one select, and the tree of selects.
 use Rattle.std.specs.Prelude.{ℕ, Bool, true, false, Option, Some, None, List, [], ◌∷◌, Ok, length, map, if◌then◌else◌}
 use Rattle.logical_plan.specs.declared.plan.Logical.{Logical}
-use Rattle.logical_plan.specs.declared.plan.Logical.TheVariants as plan
 use Rattle.sql_grammar.specs.declared.ast.ExprAst.{ExprAst}
 use Rattle.sql_grammar.specs.declared.ast.ItemAst.{ItemAst}
 use Rattle.sql_grammar.specs.declared.ast.SelectAst.{SelectAst}
@@ -14,14 +13,19 @@ use Rattle.expr_binder.specs.Scopes.{Columns}
 use Rattle.expr_binder.specs.Answer.{Answer, ◌>>=◌}
 use Rattle.expr_binder.specs.Groups.{Over}
 use Rattle.expr_binder.specs.Typed.{Kinded}
-use Rattle.sql_binder.specs.declared.schema.Schema.{Schema}
+use Rattle.sql_tables.specs.declared.table.Table.{Table}
 use Rattle.sql_binder.specs.declared.sources.Source.{Source}
 use Rattle.sql_binder.specs.declared.selected.Selected.{Selected}
 use Rattle.sql_binder.specs.Each.{each}
 use Rattle.sql_binder.specs.Sources.{Reading, Joining, table, derived, from, filtered}
-use Rattle.sql_binder.specs.declared.items.Output.{Output}
-use Rattle.sql_binder.specs.Items.{outputs, names, exprs, kinds}
-use Rattle.sql_binder.specs.Grouped.{keys, calls, is_grouped, argument, arguments, numbered, key_kinds, aggregated, having}
+use Rattle.logical_build.specs.declared.outputs.Output.{Output}
+use Rattle.logical_build.specs.Calls.{argument, numbered}
+use Rattle.logical_build.specs.Groups.{key_kinds, aggregated, kept}
+use Rattle.logical_build.specs.Outputs.{names, kinds, projected_body}
+use Rattle.sql_binder.specs.declared.clauses.Clauses.{Clauses}
+use Rattle.scalar_exprs.specs.declared.expr.Expr.{Expr}
+use Rattle.sql_binder.specs.Items.{outputs}
+use Rattle.sql_binder.specs.Grouped.{keys, calls, is_grouped, arguments, having}
 use Rattle.sql_binder.specs.Unions.{Placed, united}
 
 -- a select as it is written, behind FROM and WHERE
@@ -31,34 +35,40 @@ pub record Parts : Type 0 where
   pub groups : List ExprAst
   pub having : Option ExprAst
 
-abbrev pub distinct_if : Bool → Logical → Logical
-distinct_if true body = plan.Distinct body
-distinct_if false body = body
-
 abbrev pub projected : Bool → Columns → List Output → Logical → Selected
-projected distinct columns os body = record { columns = columns; names = names os; kinds = kinds os; body = distinct_if distinct (plan.Project body (exprs os)) }
+projected distinct columns os body = record {
+  columns = columns;
+  names = names os;
+  kinds = kinds os;
+  body = projected_body distinct os body;
+}
 
 -- the items over the rows themselves
 abbrev pub plain : Bool → List ItemAst → Source → Answer Selected
 plain distinct items s = outputs s.columns None items >>= λ os. Ok (projected distinct s.columns os s.body)
 
 abbrev pub over_keys : Parts → Columns → List ExprAst → List Kinded → Over
-over_keys p columns found ks = Some (record { keys = p.groups; kinds = key_kinds ks; calls = found })
+over_keys p columns found ks =
+    Some (record { keys = p.groups; kinds = key_kinds ks; calls = found })
 
--- the groups behind HAVING
-abbrev pub groups_body : Parts → List ExprAst → Columns → List Kinded → Logical → Answer Logical
-groups_body p found columns ks body = arguments columns (map argument found) >>= λ args.
-    having columns (over_keys p columns found ks) p.having (aggregated body ks args (numbered (length ks) (map argument found)))
-
--- the columns of the items over groups, and the groups
-abbrev pub over_groups : Parts → List ExprAst → Columns → Logical → Answer (List Output × Logical)
-over_groups p found columns body = keys columns p.groups >>= λ ks.
+-- The tests of a select over groups in text order: GROUP BY, the items, HAVING. Each aggregate call
+-- binds its argument where it stands.
+abbrev pub clauses : Parts → List ExprAst → Columns → Answer Clauses
+clauses p found columns = keys columns p.groups >>= λ ks.
     outputs columns (over_keys p columns found ks) p.items >>= λ os.
-    groups_body p found columns ks body >>= λ groups.
-    Ok (os, groups)
+    having columns (over_keys p columns found ks) p.having >>= λ test.
+    Ok (record { keys = ks; outputs = os; test = test })
 
+-- the groups of a body by these keys, of which those stay on which HAVING's test is true
+abbrev pub groups_body : List ExprAst → List Kinded → Option Expr → List Expr → Logical → Logical
+groups_body found ks test args body =
+    kept test (aggregated body ks args (numbered (length ks) (map argument found)))
+
+-- behind the clauses, each argument is one that they bound where its call stands
 abbrev pub grouped : Parts → List ExprAst → Source → Answer Selected
-grouped p found s = over_groups p found s.columns s.body >>= λ g. Ok (projected p.distinct s.columns g.0 g.1)
+grouped p found s = clauses p found s.columns >>= λ c.
+    arguments s.columns (map argument found) >>= λ args.
+    Ok (projected p.distinct s.columns c.outputs (groups_body found c.keys c.test args s.body))
 
 abbrev pub with_calls : Parts → Source → List ExprAst → Answer Selected
 with_calls p s found = if is_grouped p.groups p.having found then grouped p found s else plain p.distinct p.items s
@@ -80,9 +90,11 @@ placed s = s.select >>= λ x. Ok (s.place, x)
 abbrev pub union_of : List Selecting → Answer Selected
 union_of ss = each placed ss >>= united
 
-abbrev pub reading : List Schema → FromAst-F Reading Joining Selecting → Reading
-reading schemas (FromAst-F.Named name alias place) = record { alias = alias; place = place; source = table schemas place name alias }
-reading schemas (FromAst-F.Derived parts alias place) = record { alias = alias; place = place; source = union_of parts >>= λ s. Ok (derived alias s) }
+abbrev pub reading : List Table → FromAst-F Reading Joining Selecting → Reading
+reading tables (FromAst-F.Named name alias place) =
+    record { alias = alias; place = place; source = table tables place name alias }
+reading tables (FromAst-F.Derived parts alias place) =
+    record { alias = alias; place = place; source = union_of parts >>= λ s. Ok (derived alias s) }
 
 abbrev pub joining : JoinAst-F Reading Joining Selecting → Joining
 joining j = record { kind = j.kind; right = j.right; on = j.on }
@@ -96,12 +108,12 @@ parts s = parts_of (out-SelectAst s)
 abbrev pub selecting : SelectAst-F Reading Joining Selecting → Selecting
 selecting s = record { place = s.place; select = from s.first s.joins >>= filtered s.test >>= selected (parts_of s) }
 
--- a select over tables of these schemas, and what stands in it
-unfoldable pub select : List Schema → SelectAst → Selecting
-select schemas = fold-SelectAst Reading Joining Selecting (reading schemas) joining selecting
+-- a select over these tables, and what stands in it
+unfoldable pub select : List Table → SelectAst → Selecting
+select tables = fold-SelectAst Reading Joining Selecting (reading tables) joining selecting
 
-unfoldable pub reading_of : List Schema → FromAst → Reading
-reading_of schemas = fold-FromAst Reading Joining Selecting (reading schemas) joining selecting
+unfoldable pub reading_of : List Table → FromAst → Reading
+reading_of tables = fold-FromAst Reading Joining Selecting (reading tables) joining selecting
 
-unfoldable pub joining_of : List Schema → JoinAst → Joining
-joining_of schemas = fold-JoinAst Reading Joining Selecting (reading schemas) joining selecting
+unfoldable pub joining_of : List Table → JoinAst → Joining
+joining_of tables = fold-JoinAst Reading Joining Selecting (reading tables) joining selecting

@@ -14,10 +14,10 @@ use Rattle.expr_binder.specs.Typed.{tested}
 use Rattle.expr_binder.specs.Meaning.{meaning, place_of}
 use Rattle.join_lowering.specs.declared.lower.Side.{Side}
 use Rattle.join_lowering.specs.Lowering.{lowered}
-use Rattle.sql_binder.specs.declared.schema.Schema.{Schema}
+use Rattle.sql_tables.specs.declared.table.Table.{Table}
 use Rattle.sql_binder.specs.declared.sources.Source.{Source}
 use Rattle.sql_binder.specs.declared.selected.Selected.{Selected}
-use Rattle.sql_binder.specs.Tables.{columns_under}
+use Rattle.sql_tables.specs.Tables.{columns_under}
 
 -- ---- a table, or a derived one
 
@@ -27,29 +27,30 @@ kinds = map (λ (c : Column). c.kind)
 abbrev pub scanned : ℕ → Columns → Source
 scanned table columns = record { columns = columns; body = plan.Scan table (kinds columns) }
 
-abbrev pub place_from : ℕ → List Schema → List ℕ → Option ℕ
-place_from k [] name = None
-place_from k (s ∷ ss) name = if is_text s.table name then Some k else place_from (suc k) ss name
+abbrev pub number_from : ℕ → List Table → List ℕ → Option ℕ
+number_from k [] name = None
+number_from k (t ∷ ts) name = if is_text t.name name then Some k else number_from (suc k) ts name
 
 -- the first table of this name, by its number
-abbrev pub place_of_table : List Schema → List ℕ → Option ℕ
-place_of_table schemas name = place_from 0 schemas name
+abbrev pub number_of_table : List Table → List ℕ → Option ℕ
+number_of_table tables name = number_from 0 tables name
 
-abbrev pub names_at : List Schema → ℕ → List (List ℕ)
-names_at schemas k = of_schema (slice_get schemas k) where
-  of_schema : Option Schema → List (List ℕ)
-  of_schema None = []
-  of_schema (Some s) = s.names
+abbrev pub names_at : List Table → ℕ → List (List ℕ)
+names_at tables k = of_table (slice_get tables k) where
+  of_table : Option Table → List (List ℕ)
+  of_table None = []
+  of_table (Some t) = t.names
 
-abbrev pub kinds_at : List Schema → ℕ → List Kind
-kinds_at schemas k = of_schema (slice_get schemas k) where
-  of_schema : Option Schema → List Kind
-  of_schema None = []
-  of_schema (Some s) = s.kinds
+abbrev pub kinds_at : List Table → ℕ → List Kind
+kinds_at tables k = of_table (slice_get tables k) where
+  of_table : Option Table → List Kind
+  of_table None = []
+  of_table (Some t) = t.kinds
 
-abbrev pub table : List Schema → ℕ → List ℕ → List ℕ → Answer Source
-table schemas place name alias = or_refuse why.UnknownTable place (place_of_table schemas name) >>= λ k.
-    Ok (scanned k (columns_under alias (names_at schemas k) (kinds_at schemas k)))
+abbrev pub table : List Table → ℕ → List ℕ → List ℕ → Answer Source
+table tables place name alias =
+    or_refuse why.UnknownTable place (number_of_table tables name) >>= λ k.
+    Ok (scanned k (columns_under alias (names_at tables k) (kinds_at tables k)))
 
 abbrev pub derived : List ℕ → Selected → Source
 derived alias s = record { columns = columns_under alias s.names s.kinds; body = s.body }

@@ -1,17 +1,16 @@
-//! Aggregate calls, and the rows of groups.
+//! Aggregate calls, and HAVING.
 
-ghost use Rattle.std.specs.Prelude.{◌≡◌, ◌++◌, IfOk, option_map, map, Some};
+ghost use Rattle.std.specs.Prelude.{◌≡◌, IfOk, map, Some};
 ghost use Rattle.expr_binder.specs.Answer.{Gives};
+ghost use Rattle.logical_build.specs.Calls.{argument as argument_of};
 ghost use Rattle.sql_binder.specs.Grouped as spec;
 
-use crate::groups::{key_exprs, places};
-use crate::sources::small;
-use dfx_value::{AggCall, Kind, NoMemory, Seq};
+use dfx_value::{NoMemory, Seq};
 use expr_binder::{Column, Grouping, Unbound, add_calls, bind_expr, settle, tested};
-use logical_plan::Logical;
+use logical_build::argument;
 use scalar_exprs::Expr;
-use sql_grammar::ast::{ExprAst, FnAst, ItemAst, NodeAst};
-use sqlite_items::{Boxed, Items};
+use sql_grammar::ast::{ExprAst, ItemAst};
+use sqlite_items::Items;
 use std::alloc::Global;
 
 fn add_item(
@@ -54,53 +53,6 @@ pub fn is_grouped(groups: &[ExprAst], having: &Option<ExprAst>, calls: &[ExprAst
     groups.len() > 0 || having.is_some() || calls.len() > 0
 }
 
-/// An aggregate of a column.
-fn of_column(function: FnAst, column: u32) -> AggCall
-    ensures { result ≡ spec.of_column function column }
-{
-    match function {
-        FnAst::Sum => AggCall::Sum(column),
-        FnAst::Min => AggCall::Min(column),
-        FnAst::Max => AggCall::Max(column),
-        FnAst::Avg => AggCall::Avg(column),
-        _ => AggCall::Count(column),
-    }
-}
-
-/// The function and the argument of a call; COUNT(*) has none.
-fn argument(call: &ExprAst) -> Option<(FnAst, &ExprAst)>
-    ensures { option_map (λ a. (a.0, a.1.now)) result ≡ spec.argument call.now }
-{
-    match &call.node {
-        NodeAst::Call(function, arguments) => match arguments.as_slice().first() {
-            Some(argument) => Some((*function, argument)),
-            None => None,
-        },
-        _ => None,
-    }
-}
-
-/// The calls over columns of their own, from `first` on.
-pub fn numbered(alloc: Global, first: usize, calls: &[ExprAst]) -> Result<Items<AggCall>, NoMemory>
-    ensures { IfOk result (λ numbered. numbered ≡ spec.numbered first (map spec.argument calls.now)) }
-{
-    let mut numbered = Items::new(alloc);
-    let mut column = small(first)?;
-    for call in calls {
-        match argument(call) {
-            None => numbered.push(AggCall::CountAll)?,
-            Some((function, _)) => {
-                numbered.push(of_column(function, column))?;
-                match column.checked_add(1) {
-                    Some(next) => column = next,
-                    None => return Err(NoMemory),
-                }
-            }
-        }
-    }
-    Ok(numbered)
-}
-
 fn argument_expr(alloc: Global, columns: &[Column], argument: &ExprAst) -> Result<Expr, Unbound>
     ensures { Gives result (spec.settled_expr columns.now argument.now) }
 {
@@ -110,7 +62,7 @@ fn argument_expr(alloc: Global, columns: &[Column], argument: &ExprAst) -> Resul
 
 /// The arguments of the calls that have one.
 pub fn arguments(alloc: Global, columns: &[Column], calls: &[ExprAst]) -> Result<Seq<Expr>, Unbound>
-    ensures { Gives result (spec.arguments columns.now (map spec.argument calls.now)) }
+    ensures { Gives result (spec.arguments columns.now (map argument_of calls.now)) }
 {
     let mut done = Vec::new(alloc);
     for call in calls {
@@ -121,60 +73,20 @@ pub fn arguments(alloc: Global, columns: &[Column], calls: &[ExprAst]) -> Result
     Ok(Seq::from_vec(done))
 }
 
-/// The expressions of keys, and behind them the arguments.
-fn keys_and_arguments(
-    alloc: Global,
-    keys: Seq<(Expr, Kind)>,
-    arguments: Seq<Expr>,
-) -> Result<Items<Expr>, NoMemory>
-    ensures { IfOk result (λ items. items ≡ spec.exprs keys ++ arguments) }
-{
-    let mut items = key_exprs(alloc, keys)?;
-    items.append(Items::from_vec(arguments.into_vec()))?;
-    Ok(items)
-}
-
-/// The groups over a body: rows of the keys and then of the calls.
-pub fn aggregated(
-    alloc: Global,
-    body: Logical,
-    keys: Seq<(Expr, Kind)>,
-    arguments: Seq<Expr>,
-    calls: Items<AggCall>,
-) -> Result<Logical, NoMemory>
-    ensures { IfOk result (λ body'. body' ≡ spec.aggregated body keys arguments calls) }
-{
-    let places = places(alloc, keys.len())?;
-    let items = keys_and_arguments(alloc, keys, arguments)?;
-    let below = Logical::Project {
-        input: Boxed::new(alloc, body)?,
-        items,
-    };
-    Ok(Logical::Aggregate {
-        input: Boxed::new(alloc, below)?,
-        keys: places,
-        calls,
-    })
-}
-
-/// The groups on which HAVING is true.
+/// The test of HAVING, which must be a truth.
 pub fn having(
     alloc: Global,
     columns: &[Column],
     over: &Grouping<'_>,
     test: &Option<ExprAst>,
-    body: Logical,
-) -> Result<Logical, Unbound>
-    ensures { Gives result (spec.having columns.now (Some over.now) test.now body) }
+) -> Result<Option<Expr>, Unbound>
+    ensures { Gives result (spec.having columns.now (Some over.now) test.now) }
 {
     match test {
-        None => Ok(body),
+        None => Ok(None),
         Some(test) => {
             let bound = bind_expr(alloc, columns, Some(over), test)?;
-            Ok(Logical::Filter {
-                input: Boxed::new(alloc, body)?,
-                test: tested(test.place, bound)?,
-            })
+            Ok(Some(tested(test.place, bound)?))
         }
     }
 }

@@ -8,14 +8,13 @@ ghost use Rattle.sql_binder.specs.Refusals.{IsBound};
 
 use crate::orders::{Single, limit, offset, order};
 use crate::refused::BindRefused;
-use crate::schema::Schema;
 use crate::selected::Selected;
 use crate::selects::bind_parts;
-use crate::tables::tables_tested;
 use dfx_value::{Seq, SortKey};
 use expr_binder::{Column, Unbound};
 use logical_plan::Query;
 use sql_grammar::ast::{Script, SelectAst};
+use sql_tables::{Schema, tables};
 use std::alloc::Global;
 
 fn single<'a>(columns: &'a [Column], parts: &'a [SelectAst]) -> Option<Single<'a>>
@@ -55,15 +54,17 @@ fn query_of(alloc: Global, script: &Script, selected: Selected) -> Result<Query,
 fn query(alloc: Global, script: &Script, schemas: &[Schema]) -> Result<Query, Unbound>
     ensures { Gives result (spec.bound script.now schemas.now) }
 {
-    tables_tested(script.tables.as_slice(), schemas)?;
-    let selected = bind_parts(alloc, schemas, script.parts.as_slice())?;
+    let tables = tables(alloc, script.tables.as_slice(), schemas)?;
+    let selected = bind_parts(alloc, tables.as_slice(), script.parts.as_slice())?;
     query_of(alloc, script, selected)
 }
 
-/// The query of a script over tables of these schemas, one for each table in the order of the statements.
+/// The query of a script over its tables. Each statement of a table has a schema: that of its files, where they
+/// are Arrow files; else it isn't read, since the statement declares the columns.
 ///
-/// The refusal is the first one: the tables in order; then the selects in order, in each FROM with its joins, WHERE, GROUP BY, the items
-/// and HAVING, operands before their operator and from the left; then the union, ORDER BY, LIMIT and OFFSET.
+/// The refusal is the first one: the tables in order; then the selects in order, in each FROM with its joins, WHERE,
+/// GROUP BY, the items and HAVING, operands before their operator and from the left; then the union, ORDER BY, LIMIT
+/// and OFFSET.
 pub fn bind(alloc: Global, script: &Script, schemas: &[Schema]) -> Result<Query, BindRefused>
     ensures { IsBound result (spec.bound script.now schemas.now) }
 {

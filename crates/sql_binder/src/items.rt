@@ -1,6 +1,6 @@
 //! The columns that the items of a select give.
 
-ghost use Rattle.std.specs.Prelude.{◌≡◌, ◌<◌, ◌++◌, ◌∷◌, [], All, IfOk, length, codes};
+ghost use Rattle.std.specs.Prelude.{◌≡◌, ◌<◌, ◌+◌, ◌++◌, ◌∷◌, [], All, IfOk, Some, length, codes};
 ghost use Rattle.std.specs.Option.{option_copied};
 ghost use Rattle.expr_binder.specs.Answer.{Gives};
 ghost use Rattle.std.specs.Fmt.{decimal};
@@ -9,21 +9,13 @@ ghost use Rattle.expr_binder.specs.Meaning.{column_kind};
 ghost use Rattle.sql_binder.specs.Each.{each};
 ghost use Rattle.sql_binder.specs.Items as spec;
 
-use crate::sources::{is_under, is_unknown, small};
+use crate::sources::{is_under, is_unknown};
 use dfx_value::{Kind, NoMemory, Seq, Text};
 use expr_binder::{Column, Grouping, Refusal, Unbound, Why, bind_expr, column_of, settle};
+use logical_build::{Output, as_u32};
 use scalar_exprs::Expr;
 use sql_grammar::ast::{ExprAst, ItemAst, NodeAst};
-use sqlite_items::Items;
 use std::alloc::Global;
-
-/// A column of the answer.
-#[derive(Debug, Drop)]
-pub struct Output {
-    pub name: Text,
-    pub expr: Expr,
-    pub kind: Kind,
-}
 
 /// Whether an expression is the name of this column.
 #[tactic(auto, unfolding(crate::specs::Items::is_column))]
@@ -39,7 +31,7 @@ pub fn is_column(columns: &[Column], number: usize, expr: &ExprAst) -> bool
     }
 }
 
-/// The place of the first key that is this column.
+/// The number of the first key that is this column.
 fn key_of(columns: &[Column], number: usize, keys: &[ExprAst]) -> Option<usize>
     ensures { result ≡ spec.key_from columns.now number 0 keys.now }
 {
@@ -66,7 +58,7 @@ fn own_column(alloc: Global, column: &Column, number: usize) -> Result<Output, N
 {
     Ok(Output {
         name: column.name.copy(alloc)?,
-        expr: Expr::Column(small(number)?),
+        expr: Expr::Column(as_u32(number)?),
         kind: column.kind,
     })
 }
@@ -86,7 +78,7 @@ fn key_column(
         None => Err(Unbound::from(Refusal::new(Why::NotGrouped, place))),
         Some(key) => Ok(Output {
             name: column.name.copy(alloc)?,
-            expr: Expr::Column(small(key)?),
+            expr: Expr::Column(as_u32(key)?),
             kind: kind_of_key(grouping.kinds, key),
         }),
     }
@@ -240,6 +232,71 @@ fn outputs_of(
     }
 }
 
+/// How many columns stand under an alias.
+fn count_under(columns: &[Column], alias: &Text) -> usize
+    ensures { result ≡ length (spec.given (Some alias.now) columns.now) }
+{
+    let mut count = 0;
+    for number in 0..columns.len() {
+        if is_under(alias, &columns[number]) {
+            count += 1;
+        }
+    }
+    count
+}
+
+/// How many columns an item gives.
+#[tactic(auto, using(crate::proofs::AllGiven::all_given), unfolding(crate::specs::Items::width_of))]
+pub fn width_of(columns: &[Column], item: &ItemAst) -> usize
+    ensures { result ≡ spec.width_of columns.now item.now }
+{
+    match item {
+        ItemAst::All { place: _ } => columns.len(),
+        ItemAst::AllOf { name, place: _ } => count_under(columns, name),
+        ItemAst::One { expr: _, name: _ } => 1,
+    }
+}
+
+/// A select gives no more columns than this.
+const MOST_COLUMNS: usize = 16_384;
+
+/// Whether so many columns, and so many behind them, are more than a select may give.
+fn are_too_many(before: usize, width: usize) -> bool
+    ensures { result ≡ spec.are_too_many (before + width) }
+{
+    match before.checked_add(width) {
+        Some(count) => count > MOST_COLUMNS,
+        None => true,
+    }
+}
+
+fn place_of_item(item: &ItemAst) -> u32
+    ensures { result ≡ spec.place_of_item item.now }
+{
+    match item {
+        ItemAst::All { place } => *place,
+        ItemAst::AllOf { name: _, place } => *place,
+        ItemAst::One { expr, name: _ } => expr.place,
+    }
+}
+
+/// The columns of an item behind `before` others. Unsupported where they are too many with it, which then isn't
+/// bound.
+fn outputs_behind(
+    alloc: Global,
+    columns: &[Column],
+    over: Option<&Grouping<'_>>,
+    before: usize,
+    item: &ItemAst,
+) -> Result<Seq<Output>, Unbound>
+    ensures { Gives result (spec.outputs_behind columns.now (option_copied over.entry) before item.now) }
+{
+    if are_too_many(before, width_of(columns, item)) {
+        return Err(Unbound::from(Refusal::new(Why::Unsupported, place_of_item(item))));
+    }
+    outputs_of(alloc, columns, over, before + 1, item)
+}
+
 fn appended(done: Seq<Output>, more: Seq<Output>) -> Result<Seq<Output>, NoMemory>
     ensures { IfOk result (λ all. all ≡ done ++ more) }
 {
@@ -260,40 +317,8 @@ pub fn outputs(
 {
     let mut done = Seq::from_vec(Vec::new(alloc));
     for item in items {
-        let position = done.len() + 1;
-        let more = outputs_of(alloc, columns, over, position, item)?;
+        let more = outputs_behind(alloc, columns, over, done.len(), item)?;
         done = appended(done, more)?;
     }
     Ok(done)
-}
-
-/// Columns of an answer, as lists of their parts.
-#[derive(Debug, Drop)]
-pub struct Lists {
-    pub names: Seq<Text>,
-    pub exprs: Items<Expr>,
-    pub kinds: Seq<Kind>,
-}
-
-/// The names, the expressions and the kinds, each in order.
-pub fn taken_apart(alloc: Global, outputs: Seq<Output>) -> Result<Lists, NoMemory>
-    ensures names { IfOk result (λ l. l.names ≡ spec.names outputs) }
-    ensures exprs { IfOk result (λ l. l.exprs ≡ spec.exprs outputs) }
-    ensures kinds { IfOk result (λ l. l.kinds ≡ spec.kinds outputs) }
-{
-    let outputs = outputs.into_vec();
-    let mut names = Vec::with_capacity(alloc, outputs.len())?;
-    let mut exprs = Items::new(alloc);
-    let mut kinds = Vec::with_capacity(alloc, outputs.len())?;
-    for output in outputs {
-        let Output { name, expr, kind } = output;
-        names.push(name)?;
-        exprs.push(expr)?;
-        kinds.push(kind)?;
-    }
-    Ok(Lists {
-        names: Seq::from_vec(names),
-        exprs,
-        kinds: Seq::from_vec(kinds),
-    })
 }

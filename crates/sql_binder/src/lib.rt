@@ -3,17 +3,16 @@
 
 mod aggregates;
 mod binding;
+mod clauses;
 mod groups;
 mod items;
 mod orders;
 mod refused;
-mod schema;
 mod selected;
 mod selects;
 mod sources;
-mod tables;
 mod unions;
 
 pub use binding::bind;
 pub use refused::BindRefused;
-pub use schema::Schema;
+pub use sql_tables::Schema;

@@ -5,10 +5,11 @@ ghost use Rattle.expr_binder.specs.Literals.{has_point as has_point_in};
 ghost use Rattle.expr_binder.specs.Answer.{Gives};
 ghost use Rattle.sql_binder.specs.Orders as spec;
 
-use crate::items::is_column;
-use crate::sources::{is_under, small};
+use crate::items::{is_column, width_of};
+use crate::sources::is_under;
 use dfx_value::{Kind, NoMemory, ParseRefused, Seq, SortKey, Text, Value, parse_value};
 use expr_binder::{Column, Refusal, Unbound, Why, same};
+use logical_build::as_u32;
 use sql_grammar::ast::{ExprAst, ItemAst, KeyAst, NodeAst, NumberAst};
 use std::alloc::Global;
 
@@ -20,9 +21,9 @@ pub struct Single<'a> {
     pub items: &'a [ItemAst],
 }
 
-/// The place of the column that a key is among all columns.
+/// The number of the column that a key is among all columns.
 #[tactic(auto, using(crate::proofs::AllGiven::all_columns))]
-fn place_of_column(columns: &[Column], key: &ExprAst) -> Option<usize>
+fn number_among_all(columns: &[Column], key: &ExprAst) -> Option<usize>
     ensures { result ≡ spec.first_from 0 (spec.column_tests columns.now None) key.now }
 {
     for number in 0..columns.len() {
@@ -33,43 +34,30 @@ fn place_of_column(columns: &[Column], key: &ExprAst) -> Option<usize>
     None
 }
 
-/// The place of the column that a key is among those under an alias.
-fn place_under(columns: &[Column], alias: &Text, key: &ExprAst) -> Option<usize>
+/// The number of the column that a key is among those under an alias.
+fn number_under(columns: &[Column], alias: &Text, key: &ExprAst) -> Option<usize>
     ensures { result ≡ spec.first_from 0 (spec.column_tests columns.now (Some alias.now)) key.now }
 {
-    let mut place = 0;
+    let mut before = 0;
     for number in 0..columns.len() {
         if is_under(alias, &columns[number]) {
             if is_column(columns, number, key) {
-                return Some(place);
+                return Some(before);
             }
-            place += 1;
+            before += 1;
         }
     }
     None
 }
 
-/// How many columns stand under an alias.
-fn count_under(columns: &[Column], alias: &Text) -> usize
-    ensures { result ≡ length (spec.column_tests columns.now (Some alias.now)) }
-{
-    let mut count = 0;
-    for number in 0..columns.len() {
-        if is_under(alias, &columns[number]) {
-            count += 1;
-        }
-    }
-    count
-}
-
 /// The first of an item's columns that a key equals.
-#[tactic(auto, unfolding(crate::specs::Orders::place_in))]
-fn place_in(columns: &[Column], item: &ItemAst, key: &ExprAst) -> Option<usize>
-    ensures { result ≡ spec.place_in columns.now item.now key.now }
+#[tactic(auto, unfolding(crate::specs::Orders::number_in))]
+fn number_in(columns: &[Column], item: &ItemAst, key: &ExprAst) -> Option<usize>
+    ensures { result ≡ spec.number_in columns.now item.now key.now }
 {
     match item {
-        ItemAst::All { place: _ } => place_of_column(columns, key),
-        ItemAst::AllOf { name, place: _ } => place_under(columns, name, key),
+        ItemAst::All { place: _ } => number_among_all(columns, key),
+        ItemAst::AllOf { name, place: _ } => number_under(columns, name, key),
         ItemAst::One { expr, name: _ } => {
             if same(columns, key, expr) {
                 Some(0)
@@ -77,18 +65,6 @@ fn place_in(columns: &[Column], item: &ItemAst, key: &ExprAst) -> Option<usize>
                 None
             }
         }
-    }
-}
-
-/// How many columns an item gives.
-#[tactic(auto, using(crate::proofs::AllGiven::all_given), unfolding(crate::specs::Orders::width_of))]
-fn width_of(columns: &[Column], item: &ItemAst) -> usize
-    ensures { result ≡ spec.width_of columns.now item.now }
-{
-    match item {
-        ItemAst::All { place: _ } => columns.len(),
-        ItemAst::AllOf { name, place: _ } => count_under(columns, name),
-        ItemAst::One { expr: _, name: _ } => 1,
     }
 }
 
@@ -103,14 +79,14 @@ fn sum(left: usize, right: usize) -> Result<usize, NoMemory>
 }
 
 /// The first column of the items that a key equals.
-#[tactic(auto, using(crate::proofs::FirstPlaces::places))]
-fn place_in_items(single: Single<'_>, key: &ExprAst) -> Result<Option<usize>, NoMemory>
-    ensures { IfOk result (λ place. place ≡ spec.place_from single.entry.columns.now 0 single.entry.items.now key.now) }
+#[tactic(auto, using(crate::proofs::FirstNumbers::numbers))]
+fn number_in_items(single: Single<'_>, key: &ExprAst) -> Result<Option<usize>, NoMemory>
+    ensures { IfOk result (λ number. number ≡ spec.number_from single.entry.columns.now 0 single.entry.items.now key.now) }
 {
     let mut behind = 0;
     for item in single.items {
-        if let Some(place) = place_in(single.columns, item, key) {
-            return Ok(Some(sum(behind, place)?));
+        if let Some(number) = number_in(single.columns, item, key) {
+            return Ok(Some(sum(behind, number)?));
         }
         behind = sum(behind, width_of(single.columns, item))?;
     }
@@ -121,25 +97,25 @@ fn place_in_items(single: Single<'_>, key: &ExprAst) -> Result<Option<usize>, No
 fn item_of(single: Option<Single<'_>>, key: &ExprAst) -> Result<usize, Unbound>
     ensures { Gives result (spec.item_of (option_map spec.viewed single.entry) key.now) }
 {
-    let place = match single {
+    let number = match single {
         None => None,
-        Some(single) => place_in_items(single, key)?,
+        Some(single) => number_in_items(single, key)?,
     };
-    match place {
-        Some(place) => Ok(place),
+    match number {
+        Some(number) => Ok(number),
         None => Err(Unbound::from(Refusal::new(Why::Unsupported, key.place))),
     }
 }
 
-/// The place of the first column of a name, from `first` on.
-fn place_of_name(names: &[Text], name: &Text, first: usize) -> Option<usize>
-    ensures place { result ≡ spec.head_of (spec.named_from first name.now (drop first names.now)) }
-    ensures within { IfSome result (λ place. place < length names.now) }
-    ensures rest { IfSome result (λ place. spec.named_from first name.now (drop first names.now) ≡ place ∷ spec.named_from (suc place) name.now (drop (suc place) names.now)) }
+/// The number of the first column of a name, from `first` on.
+fn number_of_name(names: &[Text], name: &Text, first: usize) -> Option<usize>
+    ensures number { result ≡ spec.head_of (spec.named_from first name.now (drop first names.now)) }
+    ensures within { IfSome result (λ number. number < length names.now) }
+    ensures rest { IfSome result (λ number. spec.named_from first name.now (drop first names.now) ≡ number ∷ spec.named_from (suc number) name.now (drop (suc number) names.now)) }
 {
-    for place in first..names.len() {
-        if names[place] == *name {
-            return Some(place);
+    for number in first..names.len() {
+        if names[number] == *name {
+            return Some(number);
         }
     }
     None
@@ -178,12 +154,12 @@ fn has_point(text: &[u8]) -> bool
     false
 }
 
-/// The place of a name, where no later column has it.
-fn only_place(names: &[Text], name: &Text, first: usize, place: u32) -> Result<usize, Unbound>
+/// The number of a name's column, where no later column has it.
+fn only_number(names: &[Text], name: &Text, first: usize, place: u32) -> Result<usize, Unbound>
     requires { first < length names.now }
     ensures { Gives result (spec.only first (spec.named_from (suc first) name.now (drop (suc first) names.now)) place) }
 {
-    match place_of_name(names, name, first + 1) {
+    match number_of_name(names, name, first + 1) {
         None => Ok(first),
         Some(_) => Err(Unbound::from(Refusal::new(Why::Ambiguous, place))),
     }
@@ -205,9 +181,9 @@ fn column_of_key(
             text,
             key.place,
         ),
-        NodeAst::Name(None, name) => match place_of_name(names, name, 0) {
+        NodeAst::Name(None, name) => match number_of_name(names, name, 0) {
             None => item_of(single, key),
-            Some(place) => only_place(names, name, place, key.place),
+            Some(number) => only_number(names, name, number, key.place),
         },
         _ => item_of(single, key),
     }
@@ -223,7 +199,7 @@ fn sort_key(
 {
     let column = column_of_key(alloc, names, single, &key.expr)?;
     Ok(SortKey {
-        column: small(column)?,
+        column: as_u32(column)?,
         descending: key.descending,
         nulls_first: key.nulls_first,
     })

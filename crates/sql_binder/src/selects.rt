@@ -1,25 +1,24 @@
 //! Selects, and the tree of them.
 
-ghost use Rattle.std.specs.Prelude.{◌≡◌, IfOk, Some, map};
+ghost use Rattle.std.specs.Prelude.{◌≡◌, IfOk, map};
 ghost use Rattle.expr_binder.specs.Answer.{Gives};
 ghost use Rattle.sql_binder.specs.Each.{each};
-ghost use Rattle.sql_binder.specs.Items.{outputs as spec_outputs};
 ghost use Rattle.sql_binder.specs.Selects as spec;
 ghost use Rattle.sql_binder.specs.Sources as sources;
 
-use crate::aggregates::{aggregated, arguments, calls, having, is_grouped, numbered};
-use crate::groups::{key_kinds, keys};
-use crate::items::{Output, outputs, taken_apart};
-use crate::schema::Schema;
+use crate::aggregates::{arguments, calls, is_grouped};
+use crate::clauses::{Clauses, bind_clauses};
+use crate::items::outputs;
 use crate::selected::Selected;
 use crate::sources::{Source, derived, filtered, has_alias, join_sources, table};
 use crate::unions::united;
 use dfx_value::{Kind, NoMemory, Seq, Text};
-use expr_binder::{Column, Grouping, Refusal, Unbound, Why};
+use expr_binder::{Column, Refusal, Unbound, Why};
+use logical_build::{Output, aggregated, kept, numbered, project};
 use logical_plan::Logical;
 use scalar_exprs::Expr;
 use sql_grammar::ast::{ExprAst, FromAst, ItemAst, JoinAst, SelectAst};
-use sqlite_items::Boxed;
+use sql_tables::Table;
 use std::alloc::Global;
 
 /// A Project of the items, and a Distinct on top where it is written.
@@ -32,22 +31,11 @@ fn projected(
 ) -> Result<Selected, NoMemory>
     ensures { IfOk result (λ s. s ≡ spec.projected distinct columns items body) }
 {
-    let lists = taken_apart(alloc, items)?;
-    let projected = Logical::Project {
-        input: Boxed::new(alloc, body)?,
-        items: lists.exprs,
-    };
-    let body = if distinct {
-        Logical::Distinct {
-            input: Boxed::new(alloc, projected)?,
-        }
-    } else {
-        projected
-    };
+    let (names, kinds, body) = project(alloc, distinct, items, body)?;
     Ok(Selected {
         columns,
-        names: lists.names,
-        kinds: lists.kinds,
+        names,
+        kinds,
         body,
     })
 }
@@ -65,64 +53,23 @@ fn plain(
     Ok(projected(alloc, distinct, source.columns, found, source.body)?)
 }
 
-/// The columns of the items over groups.
-fn group_outputs(
-    alloc: Global,
-    select: &SelectAst,
-    calls: &[ExprAst],
-    columns: &[Column],
-    kinds: &[Kind],
-) -> Result<Seq<Output>, Unbound>
-    ensures { Gives result (spec_outputs columns.now (Some (record { keys = (spec.parts select.now).groups; kinds = kinds.now; calls = calls.now })) (spec.parts select.now).items) }
-{
-    let over = Grouping {
-        keys: select.groups.as_slice(),
-        kinds,
-        calls,
-    };
-    outputs(alloc, columns, Some(&over), select.items.as_slice())
-}
-
-/// The groups, behind HAVING.
+/// The groups over a body, on which HAVING is true.
 fn groups_body(
     alloc: Global,
-    select: &SelectAst,
     calls: &[ExprAst],
-    columns: &[Column],
     keys: Seq<(Expr, Kind)>,
+    test: Option<Expr>,
+    arguments: Seq<Expr>,
     body: Logical,
-) -> Result<Logical, Unbound>
-    ensures { Gives result (spec.groups_body (spec.parts select.now) calls.now columns.now keys body) }
+) -> Result<Logical, NoMemory>
+    ensures { IfOk result (λ b. b ≡ spec.groups_body calls.now keys test arguments body) }
 {
-    let kinds = key_kinds(alloc, keys.as_slice())?;
-    let arguments = arguments(alloc, columns, calls)?;
     let numbered = numbered(alloc, keys.len(), calls)?;
-    let grouped = aggregated(alloc, body, keys, arguments, numbered)?;
-    let over = Grouping {
-        keys: select.groups.as_slice(),
-        kinds: kinds.as_slice(),
-        calls,
-    };
-    having(alloc, columns, &over, &select.having, grouped)
+    let groups = aggregated(alloc, body, keys, arguments, numbered)?;
+    kept(alloc, test, groups)
 }
 
-/// The columns of the items over groups, and the groups.
-fn over_groups(
-    alloc: Global,
-    select: &SelectAst,
-    calls: &[ExprAst],
-    columns: &[Column],
-    body: Logical,
-) -> Result<(Seq<Output>, Logical), Unbound>
-    ensures { Gives result (spec.over_groups (spec.parts select.now) calls.now columns.now body) }
-{
-    let keys = keys(alloc, columns, select.groups.as_slice())?;
-    let kinds = key_kinds(alloc, keys.as_slice())?;
-    let found = group_outputs(alloc, select, calls, columns, kinds.as_slice())?;
-    let body = groups_body(alloc, select, calls, columns, keys, body)?;
-    Ok((found, body))
-}
-
+/// The items over groups.
 fn grouped(
     alloc: Global,
     select: &SelectAst,
@@ -132,8 +79,15 @@ fn grouped(
     ensures { Gives result (spec.grouped (spec.parts select.now) calls.now source) }
 {
     let Source { columns, body } = source;
-    let (found, body) = over_groups(alloc, select, calls, columns.as_slice(), body)?;
-    Ok(projected(alloc, select.distinct, columns, found, body)?)
+    let bound = bind_clauses(alloc, select, calls, columns.as_slice())?;
+    let arguments = arguments(alloc, columns.as_slice(), calls)?;
+    let Clauses {
+        keys,
+        outputs,
+        test,
+    } = bound;
+    let body = groups_body(alloc, calls, keys, test, arguments, body)?;
+    Ok(projected(alloc, select.distinct, columns, outputs, body)?)
 }
 
 /// A select behind FROM and WHERE.
@@ -154,11 +108,11 @@ fn selected(alloc: Global, select: &SelectAst, source: Source) -> Result<Selecte
 #[cycle(select)]
 fn read(
     alloc: Global,
-    schemas: &[Schema],
+    tables: &[Table],
     before: &[Column],
     from: &FromAst,
 ) -> Result<Source, Unbound>
-    ensures { Gives result (sources.under_new_alias before.now (spec.reading_of schemas.now from.now)) }
+    ensures { Gives result (sources.under_new_alias before.now (spec.reading_of tables.now from.now)) }
 {
     match from {
         FromAst::Named {
@@ -166,7 +120,7 @@ fn read(
             alias,
             place,
         } => {
-            let source = table(alloc, schemas, *place, name, alias)?;
+            let source = table(alloc, tables, *place, name, alias)?;
             under_new_alias(before, alias, *place, source)
         }
         FromAst::Derived {
@@ -174,7 +128,7 @@ fn read(
             alias,
             place,
         } => {
-            let selected = bind_parts(alloc, schemas, parts.as_slice())?;
+            let selected = bind_parts(alloc, tables, parts.as_slice())?;
             let source = derived(alloc, alias, selected)?;
             under_new_alias(before, alias, *place, source)
         }
@@ -200,13 +154,13 @@ fn under_new_alias(
 #[cycle(select)]
 fn read_join(
     alloc: Global,
-    schemas: &[Schema],
+    tables: &[Table],
     join: &JoinAst,
     left: Source,
 ) -> Result<Source, Unbound>
-    ensures { Gives result (sources.joined left (spec.joining_of schemas.now join.now)) }
+    ensures { Gives result (sources.joined left (spec.joining_of tables.now join.now)) }
 {
-    let right = read(alloc, schemas, left.columns.as_slice(), &join.right)?;
+    let right = read(alloc, tables, left.columns.as_slice(), &join.right)?;
     join_sources(alloc, join.kind, left, right, &join.on)
 }
 
@@ -215,15 +169,15 @@ fn read_join(
 #[cycle(select)]
 fn read_joins(
     alloc: Global,
-    schemas: &[Schema],
+    tables: &[Table],
     joins: &[JoinAst],
     first: Source,
 ) -> Result<Source, Unbound>
-    ensures { Gives result (sources.all_joined first (map (spec.joining_of schemas.now) joins.now)) }
+    ensures { Gives result (sources.all_joined first (map (spec.joining_of tables.now) joins.now)) }
 {
     let mut source = first;
     for join in joins {
-        source = read_join(alloc, schemas, join, source)?;
+        source = read_join(alloc, tables, join, source)?;
     }
     Ok(source)
 }
@@ -231,11 +185,11 @@ fn read_joins(
 /// One select: FROM with its joins, WHERE, and what the items are over that.
 #[tactic(auto, using(crate::proofs::SelectSteps::selects))]
 #[cycle(select)]
-fn bind_select(alloc: Global, schemas: &[Schema], select: &SelectAst) -> Result<Selected, Unbound>
-    ensures { Gives result (spec.select schemas.now select.now).select }
+fn bind_select(alloc: Global, tables: &[Table], select: &SelectAst) -> Result<Selected, Unbound>
+    ensures { Gives result (spec.select tables.now select.now).select }
 {
-    let first = read(alloc, schemas, &[], &select.first)?;
-    let source = read_joins(alloc, schemas, select.joins.as_slice(), first)?;
+    let first = read(alloc, tables, &[], &select.first)?;
+    let source = read_joins(alloc, tables, select.joins.as_slice(), first)?;
     let source = filtered(alloc, &select.test, source)?;
     selected(alloc, select, source)
 }
@@ -244,14 +198,14 @@ fn bind_select(alloc: Global, schemas: &[Schema], select: &SelectAst) -> Result<
 #[cycle(select)]
 fn bind_all(
     alloc: Global,
-    schemas: &[Schema],
+    tables: &[Table],
     parts: &[SelectAst],
 ) -> Result<Seq<(u32, Selected)>, Unbound>
-    ensures { Gives result (each spec.placed (map (spec.select schemas.now) parts.now)) }
+    ensures { Gives result (each spec.placed (map (spec.select tables.now) parts.now)) }
 {
     let mut done = Vec::new(alloc);
     for part in parts {
-        let selected = bind_select(alloc, schemas, part)?;
+        let selected = bind_select(alloc, tables, part)?;
         done.push((part.place, selected))?;
     }
     Ok(Seq::from_vec(done))
@@ -259,13 +213,9 @@ fn bind_all(
 
 /// Selects that are united, of which there is one at least.
 #[cycle(select)]
-pub fn bind_parts(
-    alloc: Global,
-    schemas: &[Schema],
-    parts: &[SelectAst],
-) -> Result<Selected, Unbound>
-    ensures { Gives result (spec.union_of (map (spec.select schemas.now) parts.now)) }
+pub fn bind_parts(alloc: Global, tables: &[Table], parts: &[SelectAst]) -> Result<Selected, Unbound>
+    ensures { Gives result (spec.union_of (map (spec.select tables.now) parts.now)) }
 {
-    let done = bind_all(alloc, schemas, parts)?;
+    let done = bind_all(alloc, tables, parts)?;
     united(alloc, done.into_vec())
 }

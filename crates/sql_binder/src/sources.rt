@@ -9,15 +9,15 @@ ghost use Rattle.expr_binder.specs.declared.refusal.Why.TheVariants as why;
 ghost use Rattle.join_lowering.specs.Lowering.{lowered};
 ghost use Rattle.sql_binder.specs.Sources as spec;
 
-use crate::schema::Schema;
 use crate::selected::Selected;
-use crate::tables::columns_under;
 use dfx_value::{JoinKind, Kind, NoMemory, Seq, Text};
 use expr_binder::{Column, Refusal, Unbound, Why, bind_expr, tested};
 use join_lowering::{Side, lower_join};
+use logical_build::as_u32;
 use logical_plan::Logical;
 use scalar_exprs::Expr;
 use sql_grammar::ast::ExprAst;
+use sql_tables::{Table, columns_under};
 use sqlite_items::{Boxed, Items};
 use std::alloc::Global;
 
@@ -26,16 +26,6 @@ use std::alloc::Global;
 pub struct Source {
     pub columns: Seq<Column>,
     pub body: Logical,
-}
-
-/// The number, where it fits; that many columns fill more memory than there is.
-pub fn small(count: usize) -> Result<u32, NoMemory>
-    ensures { IfOk result (λ n. n ≡ count) }
-{
-    match u32::try_from(count) {
-        Ok(small) => Ok(small),
-        Err(_) => Err(NoMemory),
-    }
 }
 
 fn kinds_of(alloc: Global, columns: &[Column]) -> Result<Items<Kind>, NoMemory>
@@ -55,20 +45,20 @@ fn scanned(alloc: Global, table: usize, columns: Vec<Column>) -> Result<Source, 
     Ok(Source {
         columns: Seq::from_vec(columns),
         body: Logical::Scan {
-            table: small(table)?,
+            table: as_u32(table)?,
             kinds,
         },
     })
 }
 
-/// The place of the first table of this name.
-fn place_of_table(schemas: &[Schema], name: &Text) -> Option<usize>
-    ensures place { result ≡ spec.place_of_table schemas.now name.now }
-    ensures within { IfSome result (λ at. at < length schemas.now) }
+/// The number of the first table of this name.
+fn number_of_table(tables: &[Table], name: &Text) -> Option<usize>
+    ensures number { result ≡ spec.number_of_table tables.now name.now }
+    ensures within { IfSome result (λ k. k < length tables.now) }
 {
-    for at in 0..schemas.len() {
-        if schemas[at].table == *name {
-            return Some(at);
+    for number in 0..tables.len() {
+        if tables[number].name == *name {
+            return Some(number);
         }
     }
     None
@@ -77,24 +67,24 @@ fn place_of_table(schemas: &[Schema], name: &Text) -> Option<usize>
 /// The rows of a table under an alias. UnknownTable where there is none of this name.
 pub fn table(
     alloc: Global,
-    schemas: &[Schema],
+    tables: &[Table],
     place: u32,
     name: &Text,
     alias: &Text,
 ) -> Result<Source, Unbound>
-    ensures { Gives result (spec.table schemas.now place name.now alias.now) }
+    ensures { Gives result (spec.table tables.now place name.now alias.now) }
 {
-    match place_of_table(schemas, name) {
+    match number_of_table(tables, name) {
         None => Err(Unbound::from(Refusal::new(Why::UnknownTable, place))),
-        Some(at) => {
-            let schema = &schemas[at];
+        Some(number) => {
+            let table = &tables[number];
             let columns = columns_under(
                 alloc,
                 alias,
-                schema.names.as_slice(),
-                schema.kinds.as_slice(),
+                table.names.as_slice(),
+                table.kinds.as_slice(),
             )?;
-            Ok(scanned(alloc, at, columns)?)
+            Ok(scanned(alloc, number, columns)?)
         }
     }
 }
@@ -156,7 +146,7 @@ pub fn condition(alloc: Global, columns: &[Column], test: &ExprAst) -> Result<Ex
 fn side(body: Logical, columns: usize) -> Result<Side, NoMemory>
     ensures { IfOk result (λ side. side ≡ record { body = body; width = columns }) }
 {
-    let width = small(columns)?;
+    let width = as_u32(columns)?;
     Ok(Side { body, width })
 }
 

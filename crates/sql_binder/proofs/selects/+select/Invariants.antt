@@ -7,8 +7,8 @@ use Rattle.sql_binder.proofs.selects.+select.Given as goal
 
 -- what is left answers as the whole
 abbrev pub invariant-read_joins-loop-join : goal.invariant-read_joins-loop-join
-invariant-read_joins-loop-join l = sources.all_joined l.source (map (spec.joining_of l.schemas) (drop l.join-index l.joins)) ≡ sources.all_joined l.initial.source (map (spec.joining_of l.schemas) l.joins)
+invariant-read_joins-loop-join l = sources.all_joined l.source (map (spec.joining_of l.tables) (drop l.join-index l.joins)) ≡ sources.all_joined l.initial.source (map (spec.joining_of l.tables) l.joins)
 
 -- those so far, and the rest
 abbrev pub invariant-bind_all-loop-part : goal.invariant-bind_all-loop-part
-invariant-bind_all-loop-part l = each_after spec.placed l.done.items (map (spec.select l.schemas) (drop l.part-index l.parts)) ≡ each spec.placed (map (spec.select l.schemas) l.parts)
+invariant-bind_all-loop-part l = each_after spec.placed l.done.items (map (spec.select l.tables) (drop l.part-index l.parts)) ≡ each spec.placed (map (spec.select l.tables) l.parts)

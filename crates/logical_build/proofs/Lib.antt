@@ -1,0 +1,3 @@
+pub mod Uneven
+pub mod FirstColumns
+pub mod Shorter

@@ -1,7 +1,0 @@
-use Rattle.std.proofs.Common.{◌≡◌, drop}
-use Rattle.sql_binder.specs.Unions as spec
-use Rattle.sql_binder.proofs.unions.all_unified.Given as goal
-
--- those so far, and the rest
-abbrev pub invariant-loop-at : goal.invariant-loop-at
-invariant-loop-at l = spec.unified_after l.kinds.items (drop l.at l.left) (drop l.at l.right) ≡ spec.all_unified l.left l.right
