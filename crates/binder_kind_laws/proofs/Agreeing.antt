@@ -18,20 +18,20 @@ use Rattle.sql_grammar.specs.declared.ast.NodeAst.{NodeAst, roll-NodeAst}
 use Rattle.sql_grammar.specs.declared.ast.NodeAst.TheOpen.{NodeAst-F, ExprAst-F}
 use Rattle.sql_grammar.specs.declared.ast.NodeAst.TheViews.{out-NodeAst, out-roll-ExprAst, roll-out-ExprAst, roll-out-NodeAst}
 use Rattle.sql_grammar.specs.declared.ast.NodeAst.TheFolds.{map-ExprAst, map-NodeAst, ind-ExprAst, fold-roll-ExprAst, fold-roll-NodeAst, para-roll-NodeAst}
-use Rattle.expr_binder.specs.declared.case.Arm.{Arm}
-use Rattle.expr_binder.specs.declared.refusal.Why.{Why}
-use Rattle.expr_binder.specs.declared.refusal.Why.TheVariants as why
-use Rattle.expr_binder.specs.declared.typed.Typed.{Typed}
-use Rattle.expr_binder.specs.declared.typed.Typed.TheVariants as typed
-use Rattle.expr_binder.specs.declared.typed.Unary.{Unary}
-use Rattle.expr_binder.specs.declared.typed.Unary.TheVariants as operator
-use Rattle.expr_binder.specs.Answer.{Answer, ◌>>=◌, or_refuse, refuse_if}
-use Rattle.expr_binder.specs.Case.{tests, results, arm_as, chosen}
+use Rattle.typed_exprs.specs.declared.case.Arm.{Arm}
+use Rattle.typed_exprs.specs.declared.refusal.Why.{Why}
+use Rattle.typed_exprs.specs.declared.refusal.Why.TheVariants as why
+use Rattle.typed_exprs.specs.declared.typed.Typed.{Typed}
+use Rattle.typed_exprs.specs.declared.typed.Typed.TheVariants as typed
+use Rattle.typed_exprs.specs.declared.typed.Unary.{Unary}
+use Rattle.typed_exprs.specs.declared.typed.Unary.TheVariants as operator
+use Rattle.typed_exprs.specs.Answer.{Answer, ◌>>=◌, or_refuse, refuse_if}
+use Rattle.typed_exprs.specs.Case.{tests, results, arm_as, chosen}
 use Rattle.expr_binder.specs.Groups.{Over}
-use Rattle.expr_binder.specs.Literals.{literal}
+use Rattle.typed_exprs.specs.Literals.{literal}
 use Rattle.expr_binder.specs.Same.{same_column, same_truth, function_rank, op_rank, Is, all_same, arms_same, same_layer, same_node, same_expr, same, same_nodes}
-use Rattle.expr_binder.specs.Scopes.{Columns, is_text, is_named, is_unknown, numbers, the_one, column_of}
-use Rattle.expr_binder.specs.Typed.{Kinded, settled, or_mismatch, of_kind, unary, given, kind_or, alone, mismatch, operator_kind, operated, binary, common, as_kind, coalesced}
+use Rattle.typed_exprs.specs.Scopes.{Columns, is_text, is_named, is_unknown, numbers, the_one, column_of}
+use Rattle.typed_exprs.specs.Typed.{Kinded, settled, or_mismatch, of_kind, unary, given, kind_or, alone, mismatch, operator_kind, operated, binary, common, as_kind, coalesced}
 use Rattle.expr_binder.specs.Meaning.{Sense, Part, meaning, of_node, of_layer, node_sense, expr_sense, node_of, place_of, number, senses, arm_of, all, single, applied, applied_to_one, called}
 use Rattle.expr_binder.proofs.MeaningSteps.{meaning_is}
 use Rattle.binder_laws.proofs.Meanings.{over_none}

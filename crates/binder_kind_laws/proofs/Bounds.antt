@@ -11,8 +11,8 @@ use Rattle.kind_laws.specs.Kinded.{is_well_kinded}
 use Rattle.sql_grammar.specs.declared.ast.Script.{Script}
 use Rattle.sql_grammar.specs.declared.ast.TableAst.{TableAst}
 use Rattle.sql_grammar.specs.declared.ast.SelectAst.{SelectAst}
-use Rattle.expr_binder.specs.declared.refusal.Why.TheVariants as why
-use Rattle.expr_binder.specs.Answer.{Answer, ◌>>=◌}
+use Rattle.typed_exprs.specs.declared.refusal.Why.TheVariants as why
+use Rattle.typed_exprs.specs.Answer.{Answer, ◌>>=◌}
 use Rattle.sql_tables.specs.declared.schema.Schema.{Schema}
 use Rattle.sql_tables.specs.declared.table.Table.{Table}
 use Rattle.sql_tables.specs.Tables.{is_empty, schema_of, has_wrong_columns, has_other_option, declares, has_twice, table, tables_after, tables}

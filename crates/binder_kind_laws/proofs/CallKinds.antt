@@ -15,11 +15,11 @@ use Rattle.sql_grammar.specs.declared.ast.NodeAst.{NodeAst, roll-NodeAst}
 use Rattle.sql_grammar.specs.declared.ast.NodeAst.TheOpen.{NodeAst-F}
 use Rattle.sql_grammar.specs.declared.ast.NodeAst.TheViews.{out-NodeAst, out-roll-NodeAst}
 use Rattle.sql_grammar.specs.declared.ast.NodeAst.TheVariants as node
-use Rattle.expr_binder.specs.declared.typed.Typed.{Typed}
-use Rattle.expr_binder.specs.Answer.{Answer}
+use Rattle.typed_exprs.specs.declared.typed.Typed.{Typed}
+use Rattle.typed_exprs.specs.Answer.{Answer}
 use Rattle.expr_binder.specs.Same.{function_rank, all_same, same_layer, same, same_nodes, place_from}
-use Rattle.expr_binder.specs.Scopes.{Columns}
-use Rattle.expr_binder.specs.Typed.{settled}
+use Rattle.typed_exprs.specs.Scopes.{Columns}
+use Rattle.typed_exprs.specs.Typed.{settled}
 use Rattle.expr_binder.specs.Meaning.{meaning, node_of, call_of}
 use Rattle.logical_build.specs.Calls.{argument}
 use Rattle.binder_laws.proofs.Holding.{Every}

@@ -8,14 +8,14 @@ use Rattle.sql_grammar.specs.declared.ast.NodeAst.TheOpen.{NodeAst-F, ExprAst-F}
 use Rattle.sql_grammar.specs.declared.ast.NodeAst.TheFolds.{map-ExprAst, map-NodeAst, ind-ExprAst}
 use Rattle.sql_grammar.specs.declared.ast.NodeAst.TheVariants as node
 use Rattle.sql_grammar.specs.declared.ast.NodeAst.TheViews.{out-roll-ExprAst}
-use Rattle.expr_binder.specs.declared.typed.Typed.{Typed}
-use Rattle.expr_binder.specs.declared.typed.Unary.TheVariants as operator
-use Rattle.expr_binder.specs.declared.refusal.Why.TheVariants as why
-use Rattle.expr_binder.specs.Answer.{Answer, ◌>>=◌, or_refuse}
+use Rattle.typed_exprs.specs.declared.typed.Typed.{Typed}
+use Rattle.typed_exprs.specs.declared.typed.Unary.TheVariants as operator
+use Rattle.typed_exprs.specs.declared.refusal.Why.TheVariants as why
+use Rattle.typed_exprs.specs.Answer.{Answer, ◌>>=◌, or_refuse}
 use Rattle.expr_binder.specs.Calls.{Calls, calls_of, calls_in, calls_of_all, calls_of_arm, calls_of_arms, calls_of_other}
-use Rattle.expr_binder.specs.Case.{chosen}
-use Rattle.expr_binder.specs.Scopes.{Columns}
-use Rattle.expr_binder.specs.Typed.{unary, binary}
+use Rattle.typed_exprs.specs.Case.{chosen}
+use Rattle.typed_exprs.specs.Scopes.{Columns}
+use Rattle.typed_exprs.specs.Typed.{unary, binary}
 use Rattle.expr_binder.specs.Meaning.{meaning, of_node, node_of, place_of, meanings, arm_meaning, arms_meaning, other_meaning, single, applied, applied_to_one}
 use Rattle.expr_binder.proofs.CallSteps.{calls_of-is, calls-Number, calls-Str, calls-Null, calls-Truth, calls-Name, calls-Call, calls-Not, calls-Neg, calls-IsNull, calls-Binary, calls-Case, calls-Cast}
 use Rattle.expr_binder.proofs.MeaningSteps.{meaning_is, node-Call, node-CountAll, node-Not, node-Neg, node-IsNull, node-Binary, node-Case, node-Cast}

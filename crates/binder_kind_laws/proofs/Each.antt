@@ -1,8 +1,8 @@
 -- What holds of answers, of lists of them one by one, and of lists.
 use Rattle.std.proofs.Common.{ℕ, ◌≡◌, refl, sym, ◌∙◌, subst, Bool, true, false, Ok, Err, List, [], ◌∷◌, ◌++◌, length, arith}
 use Rattle.std.proofs.lemmas.List.{append_assoc, append-nil}
-use Rattle.expr_binder.specs.declared.refusal.Why.{Why}
-use Rattle.expr_binder.specs.Answer.{Answer, refuse_if}
+use Rattle.typed_exprs.specs.declared.refusal.Why.{Why}
+use Rattle.typed_exprs.specs.Answer.{Answer, refuse_if}
 use Rattle.sql_binder.specs.Each.{each_after, each}
 use Rattle.binder_laws.proofs.Holding.{Holds, after, weaker, Every}
 

@@ -22,11 +22,11 @@ use Rattle.sql_grammar.specs.declared.ast.FromAst.TheOpen.{FromAst-F, JoinAst-F,
 use Rattle.sql_grammar.specs.declared.ast.FromAst.TheVariants.{rolls-Named, rolls-Derived}
 use Rattle.sql_grammar.specs.declared.ast.FromAst.TheViews.{roll-FromAst, roll-JoinAst, roll-SelectAst, out-roll-JoinAst, out-roll-SelectAst}
 use Rattle.sql_grammar.specs.declared.ast.FromAst.TheFolds.{map-FromAst, map-JoinAst, map-SelectAst, ind-SelectAst}
-use Rattle.expr_binder.specs.declared.scope.Column.{Column}
-use Rattle.expr_binder.specs.declared.refusal.Why.TheVariants as why
-use Rattle.expr_binder.specs.Answer.{◌>>=◌, or_refuse}
-use Rattle.expr_binder.specs.Scopes.{Columns, is_text, any_is, is_under}
-use Rattle.expr_binder.specs.Typed.{tested}
+use Rattle.typed_exprs.specs.declared.scope.Column.{Column}
+use Rattle.typed_exprs.specs.declared.refusal.Why.TheVariants as why
+use Rattle.typed_exprs.specs.Answer.{◌>>=◌, or_refuse}
+use Rattle.typed_exprs.specs.Scopes.{Columns, is_text, any_is, is_under}
+use Rattle.typed_exprs.specs.Typed.{tested}
 use Rattle.expr_binder.specs.Meaning.{meaning, place_of}
 use Rattle.join_lowering.specs.Lowering.{lowered}
 use Rattle.sql_tables.specs.declared.table.Table.{Table}

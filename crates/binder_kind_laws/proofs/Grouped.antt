@@ -18,12 +18,12 @@ use Rattle.kind_laws.proofs.KindedSteps.{kinded-Filter, kinded-Aggregate}
 use Rattle.sql_grammar.specs.declared.ast.FnAst.{FnAst}
 use Rattle.sql_grammar.specs.declared.ast.FnAst.TheVariants as fn
 use Rattle.sql_grammar.specs.declared.ast.ExprAst.{ExprAst}
-use Rattle.expr_binder.specs.declared.refusal.Why.TheVariants as why
-use Rattle.expr_binder.specs.declared.typed.Typed.{Typed}
-use Rattle.expr_binder.specs.Answer.{Answer, ◌>>=◌}
+use Rattle.typed_exprs.specs.declared.refusal.Why.TheVariants as why
+use Rattle.typed_exprs.specs.declared.typed.Typed.{Typed}
+use Rattle.typed_exprs.specs.Answer.{Answer, ◌>>=◌}
 use Rattle.expr_binder.specs.Meaning.{meaning, place_of, call_of}
-use Rattle.expr_binder.specs.Scopes.{Columns}
-use Rattle.expr_binder.specs.Typed.{Kinded, settled}
+use Rattle.typed_exprs.specs.Scopes.{Columns}
+use Rattle.typed_exprs.specs.Typed.{Kinded, settled}
 use Rattle.logical_build.specs.Calls.{argument, of_column, numbered, arguments_of}
 use Rattle.logical_build.specs.Groups as rows
 use Rattle.sql_binder.specs.Grouped.{is_number, key, keys, settled_expr, arguments}

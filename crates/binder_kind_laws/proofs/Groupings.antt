@@ -16,18 +16,18 @@ use Rattle.sql_grammar.specs.declared.ast.NodeAst.TheOpen.{NodeAst-F, ExprAst-F}
 use Rattle.sql_grammar.specs.declared.ast.NodeAst.TheViews.{out-roll-ExprAst}
 use Rattle.sql_grammar.specs.declared.ast.NodeAst.TheFolds.{map-ExprAst, map-NodeAst, ind-ExprAst}
 use Rattle.sql_grammar.specs.declared.ast.NodeAst.TheVariants as node
-use Rattle.expr_binder.specs.declared.case.Arm.{Arm}
-use Rattle.expr_binder.specs.declared.typed.Typed.{Typed}
-use Rattle.expr_binder.specs.declared.typed.Unary.{Unary}
-use Rattle.expr_binder.specs.declared.typed.Unary.TheVariants as operator
-use Rattle.expr_binder.specs.declared.refusal.Why.TheVariants as why
-use Rattle.expr_binder.specs.Answer.{Answer, ◌>>=◌, refuse, or_refuse}
+use Rattle.typed_exprs.specs.declared.case.Arm.{Arm}
+use Rattle.typed_exprs.specs.declared.typed.Typed.{Typed}
+use Rattle.typed_exprs.specs.declared.typed.Unary.{Unary}
+use Rattle.typed_exprs.specs.declared.typed.Unary.TheVariants as operator
+use Rattle.typed_exprs.specs.declared.refusal.Why.TheVariants as why
+use Rattle.typed_exprs.specs.Answer.{Answer, ◌>>=◌, refuse, or_refuse}
 use Rattle.expr_binder.specs.Calls.{Calls, calls_of, calls_in, calls_of_all, calls_of_arm, calls_of_arms, calls_of_other}
-use Rattle.expr_binder.specs.Case.{chosen}
+use Rattle.typed_exprs.specs.Case.{chosen}
 use Rattle.expr_binder.specs.Groups.{Groups, Over}
 use Rattle.expr_binder.specs.Same.{same, same_nodes, function_rank, place_among}
-use Rattle.expr_binder.specs.Scopes.{Columns, column_of}
-use Rattle.expr_binder.specs.Typed.{settled, or_mismatch, unary, binary}
+use Rattle.typed_exprs.specs.Scopes.{Columns, column_of}
+use Rattle.typed_exprs.specs.Typed.{settled, or_mismatch, unary, binary}
 use Rattle.expr_binder.specs.Meaning.{meaning, of_node, node_of, place_of, key_of, or_sense, call_of, call_column, aggregate, column, column_kind, meanings, arm_meaning, arms_meaning, other_meaning, single, applied, applied_to_one, call_meaning, unary_meaning, binary_meaning}
 use Rattle.expr_binder.proofs.CallSteps.{calls_of-is, calls-Number, calls-Str, calls-Null, calls-Truth, calls-Name, calls-Call, calls-CountAll, calls-Not, calls-Neg, calls-IsNull, calls-Binary, calls-Case, calls-Cast}
 use Rattle.expr_binder.proofs.MeaningSteps.{meaning_is, node-Number, node-Str, node-Null, node-Truth, node-Name, node-Call, node-CountAll, node-Not, node-Neg, node-IsNull, node-Binary, node-Case, node-Cast}

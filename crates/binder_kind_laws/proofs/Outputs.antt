@@ -9,12 +9,12 @@ use Rattle.kind_laws.specs.Kinded.{has_kind}
 use Rattle.sql_grammar.specs.declared.ast.ExprAst.{ExprAst}
 use Rattle.sql_grammar.specs.declared.ast.ItemAst.{ItemAst}
 use Rattle.sql_grammar.specs.declared.ast.ItemAst.TheVariants as item
-use Rattle.expr_binder.specs.declared.refusal.Why.TheVariants as why
-use Rattle.expr_binder.specs.declared.scope.Column.{Column}
+use Rattle.typed_exprs.specs.declared.refusal.Why.TheVariants as why
+use Rattle.typed_exprs.specs.declared.scope.Column.{Column}
 use Rattle.expr_binder.specs.Groups.{Groups, Over}
 use Rattle.expr_binder.specs.Meaning.{meaning}
-use Rattle.expr_binder.specs.Scopes.{Columns, is_unknown, is_under, any_is, numbers_from, with_if}
-use Rattle.expr_binder.specs.Typed.{settled}
+use Rattle.typed_exprs.specs.Scopes.{Columns, is_unknown, is_under, any_is, numbers_from, with_if}
+use Rattle.typed_exprs.specs.Typed.{settled}
 use Rattle.logical_build.specs.declared.outputs.Output.{Output}
 use Rattle.logical_build.specs.Outputs as outs
 use Rattle.sql_binder.specs.Each.{each}

@@ -14,13 +14,13 @@ use Rattle.kind_laws.proofs.KindedSteps.{kinded-Distinct}
 use Rattle.sql_grammar.specs.declared.ast.ExprAst.{ExprAst}
 use Rattle.sql_grammar.specs.declared.ast.ItemAst.{ItemAst}
 use Rattle.sql_grammar.specs.declared.ast.ItemAst.TheVariants as item
-use Rattle.expr_binder.specs.Answer.{Answer, ◌>>=◌}
+use Rattle.typed_exprs.specs.Answer.{Answer, ◌>>=◌}
 use Rattle.expr_binder.specs.Calls.{Calls, calls_of, unless_found, with_call, with_calls}
 use Rattle.expr_binder.specs.Groups.{Groups, Over}
 use Rattle.expr_binder.specs.Meaning.{meaning, place_of}
 use Rattle.expr_binder.specs.Same.{place_among}
-use Rattle.expr_binder.specs.Scopes.{Columns}
-use Rattle.expr_binder.specs.Typed.{Kinded, tested}
+use Rattle.typed_exprs.specs.Scopes.{Columns}
+use Rattle.typed_exprs.specs.Typed.{Kinded, tested}
 use Rattle.logical_build.specs.declared.outputs.Output.{Output}
 use Rattle.logical_build.specs.Calls.{argument, arguments_of, numbered}
 use Rattle.logical_build.specs.Groups as rows

@@ -16,12 +16,12 @@ use Rattle.scalar_exprs.specs.Kinds.{same, one_class, only_if, widest, numeric_k
 use Rattle.scalar_exprs.specs.Kinds as opt
 use Rattle.scalar_exprs.proofs.KindSteps.{kind_of-Column, kind_of-Const, kind_of-Not, kind_of-Neg, kind_of-IsNull, kind_of-Binary, kind_of-Cast}
 use Rattle.scalar_exprs.proofs.ValueKinds.{null_is_of}
-use Rattle.expr_binder.specs.declared.typed.Typed.{Typed}
-use Rattle.expr_binder.specs.declared.typed.Typed.TheVariants as typed
-use Rattle.expr_binder.specs.declared.typed.Unary.{Unary}
-use Rattle.expr_binder.specs.declared.typed.Unary.TheVariants as operator
-use Rattle.expr_binder.specs.declared.refusal.Why.TheVariants as why
-use Rattle.expr_binder.specs.Typed.{Kinded, given, settled, kind_or, or_mismatch, of_kind, unary, alone, mismatch, operator_kind, operated, binary, widened, tested}
+use Rattle.typed_exprs.specs.declared.typed.Typed.{Typed}
+use Rattle.typed_exprs.specs.declared.typed.Typed.TheVariants as typed
+use Rattle.typed_exprs.specs.declared.typed.Unary.{Unary}
+use Rattle.typed_exprs.specs.declared.typed.Unary.TheVariants as operator
+use Rattle.typed_exprs.specs.declared.refusal.Why.TheVariants as why
+use Rattle.typed_exprs.specs.Typed.{Kinded, given, settled, kind_or, or_mismatch, of_kind, unary, alone, mismatch, operator_kind, operated, binary, widened, tested}
 use Rattle.kind_laws.proofs.KindedSteps.{fit-Column, fit-Const, fit-Not, fit-Neg, fit-IsNull, fit-Binary, fit-Cast}
 use Rattle.binder_laws.proofs.Holding.{Holds, after, where_some}
 

@@ -11,13 +11,13 @@ use Rattle.scalar_exprs.specs.Kinds.{same, only_if, casts, cast_kind, when_bool,
 use Rattle.scalar_exprs.specs.Kinds as opt
 use Rattle.scalar_exprs.proofs.KindSteps.{kind_of-Case, kind_of-Coalesce}
 use Rattle.scalar_exprs.proofs.ValueKinds.{null_is_of}
-use Rattle.expr_binder.specs.declared.case.Arm.{Arm}
-use Rattle.expr_binder.specs.declared.typed.Typed.{Typed}
-use Rattle.expr_binder.specs.declared.typed.Typed.TheVariants as typed
-use Rattle.expr_binder.specs.declared.refusal.Why.TheVariants as why
-use Rattle.expr_binder.specs.Answer.{Answer, ◌>>=◌}
-use Rattle.expr_binder.specs.Case.{tests, results, arm_as, chosen}
-use Rattle.expr_binder.specs.Typed.{settled, or_mismatch, is_number, widened, unified, common_after, or_text, common, as_kind, coalesced}
+use Rattle.typed_exprs.specs.declared.case.Arm.{Arm}
+use Rattle.typed_exprs.specs.declared.typed.Typed.{Typed}
+use Rattle.typed_exprs.specs.declared.typed.Typed.TheVariants as typed
+use Rattle.typed_exprs.specs.declared.refusal.Why.TheVariants as why
+use Rattle.typed_exprs.specs.Answer.{Answer, ◌>>=◌}
+use Rattle.typed_exprs.specs.Case.{tests, results, arm_as, chosen}
+use Rattle.typed_exprs.specs.Typed.{settled, or_mismatch, is_number, widened, unified, common_after, or_text, common, as_kind, coalesced}
 use Rattle.kind_laws.proofs.Bodies.{same_is}
 use Rattle.kind_laws.proofs.KindedSteps.{fit-Case, fit-Coalesce}
 use Rattle.binder_laws.proofs.Holding.{Holds, after, where_some, Every}

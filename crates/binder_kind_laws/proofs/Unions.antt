@@ -13,9 +13,9 @@ use Rattle.logical_plan.proofs.KindSteps.{kinds-UnionAll}
 use Rattle.kind_laws.specs.Kinded.{same_kinds, has_kind, all_as, is_well_kinded}
 use Rattle.kind_laws.proofs.KindedSteps.{marked, kinded-UnionAll}
 use Rattle.kind_laws.proofs.Bodies.{same_is}
-use Rattle.expr_binder.specs.declared.refusal.Why.TheVariants as why
-use Rattle.expr_binder.specs.declared.typed.Typed.TheVariants as typed
-use Rattle.expr_binder.specs.Typed.{unified}
+use Rattle.typed_exprs.specs.declared.refusal.Why.TheVariants as why
+use Rattle.typed_exprs.specs.declared.typed.Typed.TheVariants as typed
+use Rattle.typed_exprs.specs.Typed.{unified}
 use Rattle.logical_build.specs.Unions.{unified_after, all_unified, are_same, cast, casts, cast_if, with_kinds}
 use Rattle.sql_binder.specs.declared.selected.Selected.{Selected}
 use Rattle.sql_binder.specs.Each.{each}

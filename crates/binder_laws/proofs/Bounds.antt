@@ -4,7 +4,7 @@ use Rattle.logical_plan.specs.declared.query.Query.{Query}
 use Rattle.sql_grammar.specs.declared.ast.Script.{Script}
 use Rattle.sql_grammar.specs.declared.ast.SelectAst.{SelectAst}
 use Rattle.sql_grammar.specs.declared.ast.FromAst.TheViews.{out-SelectAst}
-use Rattle.expr_binder.specs.Answer.{Answer, ◌>>=◌}
+use Rattle.typed_exprs.specs.Answer.{Answer, ◌>>=◌}
 use Rattle.sql_tables.specs.declared.schema.Schema.{Schema}
 use Rattle.sql_tables.specs.declared.table.Table.{Table}
 use Rattle.sql_binder.specs.declared.selected.Selected.{Selected}

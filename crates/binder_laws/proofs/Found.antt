@@ -5,7 +5,7 @@ use Rattle.sql_grammar.specs.declared.ast.ItemAst.{ItemAst}
 use Rattle.sql_grammar.specs.declared.ast.ItemAst.TheVariants as item
 use Rattle.expr_binder.specs.Calls.{Calls, calls_of, unless_found, with_call, with_calls}
 use Rattle.expr_binder.specs.Same.{same, place_from, place_among}
-use Rattle.expr_binder.specs.Scopes.{Columns}
+use Rattle.typed_exprs.specs.Scopes.{Columns}
 use Rattle.sql_binder.specs.Grouped.{with_item, with_items, with_having, calls}
 use Rattle.binder_laws.proofs.Holding.{Every}
 

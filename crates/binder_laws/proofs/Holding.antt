@@ -1,7 +1,7 @@
 -- What holds of an answer, where it is no refusal.
 use Rattle.std.proofs.Common.{ℕ, ◌≡◌, ◌+◌, refl, subst, Bool, true, false, Option, Some, None, Ok, Err, List, [], ◌∷◌, ◌++◌, length, length-append, arith}
-use Rattle.expr_binder.specs.declared.refusal.Why.{Why}
-use Rattle.expr_binder.specs.Answer.{Answer, ◌>>=◌, or_refuse, refuse_if}
+use Rattle.typed_exprs.specs.declared.refusal.Why.{Why}
+use Rattle.typed_exprs.specs.Answer.{Answer, ◌>>=◌, or_refuse, refuse_if}
 use Rattle.sql_binder.specs.Each.{each_after, each}
 
 abbrev pub Holds : {A : Type 0} → (A → Type 0) → Answer A → Type 0

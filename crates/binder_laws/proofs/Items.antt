@@ -10,11 +10,11 @@ use Rattle.sql_grammar.specs.declared.ast.FnAst.{FnAst}
 use Rattle.sql_grammar.specs.declared.ast.FnAst.TheVariants as fn
 use Rattle.sql_grammar.specs.declared.ast.ExprAst.{ExprAst}
 use Rattle.sql_grammar.specs.declared.ast.ItemAst.{ItemAst}
-use Rattle.expr_binder.specs.declared.typed.Typed.{Typed}
-use Rattle.expr_binder.specs.declared.refusal.Why.TheVariants as why
-use Rattle.expr_binder.specs.Answer.{Answer, ◌>>=◌}
-use Rattle.expr_binder.specs.Scopes.{Columns}
-use Rattle.expr_binder.specs.Typed.{Kinded, settled, tested}
+use Rattle.typed_exprs.specs.declared.typed.Typed.{Typed}
+use Rattle.typed_exprs.specs.declared.refusal.Why.TheVariants as why
+use Rattle.typed_exprs.specs.Answer.{Answer, ◌>>=◌}
+use Rattle.typed_exprs.specs.Scopes.{Columns}
+use Rattle.typed_exprs.specs.Typed.{Kinded, settled, tested}
 use Rattle.expr_binder.specs.Groups.{Groups}
 use Rattle.expr_binder.specs.Meaning.{meaning, place_of}
 use Rattle.join_lowering.specs.Keys.{columns as columns_of}

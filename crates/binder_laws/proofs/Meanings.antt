@@ -12,18 +12,18 @@ use Rattle.sql_grammar.specs.declared.ast.NodeAst.TheOpen.{NodeAst-F, ExprAst-F}
 use Rattle.sql_grammar.specs.declared.ast.NodeAst.TheFolds.{map-ExprAst, map-NodeAst, ind-ExprAst}
 use Rattle.sql_grammar.specs.declared.ast.NodeAst.TheVariants as node
 use Rattle.sql_grammar.specs.declared.ast.NodeAst.TheViews.{out-roll-ExprAst}
-use Rattle.expr_binder.specs.declared.scope.Column.{Column}
-use Rattle.expr_binder.specs.declared.typed.Typed.{Typed}
-use Rattle.expr_binder.specs.declared.typed.Typed.TheVariants as typed
-use Rattle.expr_binder.specs.declared.typed.Unary.{Unary}
-use Rattle.expr_binder.specs.declared.typed.Unary.TheVariants as operator
+use Rattle.typed_exprs.specs.declared.scope.Column.{Column}
+use Rattle.typed_exprs.specs.declared.typed.Typed.{Typed}
+use Rattle.typed_exprs.specs.declared.typed.Typed.TheVariants as typed
+use Rattle.typed_exprs.specs.declared.typed.Unary.{Unary}
+use Rattle.typed_exprs.specs.declared.typed.Unary.TheVariants as operator
 use Rattle.dfx_value.specs.declared.op.Op.{Op}
-use Rattle.expr_binder.specs.Literals.{literal}
-use Rattle.expr_binder.specs.declared.refusal.Why.TheVariants as why
-use Rattle.expr_binder.specs.Answer.{◌>>=◌, or_refuse}
-use Rattle.expr_binder.specs.Case.{chosen}
-use Rattle.expr_binder.specs.Scopes.{Columns, numbers_from, with_if, numbers, is_named, is_unknown, the_one, column_of}
-use Rattle.expr_binder.specs.Typed.{settled, unary, binary}
+use Rattle.typed_exprs.specs.Literals.{literal}
+use Rattle.typed_exprs.specs.declared.refusal.Why.TheVariants as why
+use Rattle.typed_exprs.specs.Answer.{◌>>=◌, or_refuse}
+use Rattle.typed_exprs.specs.Case.{chosen}
+use Rattle.typed_exprs.specs.Scopes.{Columns, numbers_from, with_if, numbers, is_named, is_unknown, the_one, column_of}
+use Rattle.typed_exprs.specs.Typed.{settled, unary, binary}
 use Rattle.expr_binder.specs.Meaning.{meaning, of_node, place_of, meanings, arm_meaning, arms_meaning, other_meaning, operands_over, single, applied, applied_to_one, call_meaning, case_meaning, column, kind_of_column, number, unary_meaning, binary_meaning}
 use Rattle.expr_binder.proofs.MeaningSteps.{meaning_is, node-Number, node-Str, node-Null, node-Truth, node-Name, node-Call, node-CountAll, node-Not, node-Neg, node-IsNull, node-Binary, node-Case, node-Cast}
 use Rattle.join_lowering.proofs.Nodes.{columns-Abs, columns-Length}

@@ -8,10 +8,10 @@ use Rattle.sql_grammar.specs.declared.ast.NodeAst.{NodeAst}
 use Rattle.sql_grammar.specs.declared.ast.NodeAst.TheOpen.{NodeAst-F}
 use Rattle.sql_grammar.specs.declared.ast.NodeAst.TheViews.{out-ExprAst, out-NodeAst}
 use Rattle.sql_grammar.specs.declared.ast.KeyAst.{KeyAst}
-use Rattle.expr_binder.specs.declared.refusal.Why.TheVariants as why
-use Rattle.expr_binder.specs.Answer.{Answer, refuse}
-use Rattle.expr_binder.specs.Literals.{has_point}
-use Rattle.expr_binder.specs.Scopes.{is_text}
+use Rattle.typed_exprs.specs.declared.refusal.Why.TheVariants as why
+use Rattle.typed_exprs.specs.Answer.{Answer, refuse}
+use Rattle.typed_exprs.specs.Literals.{has_point}
+use Rattle.typed_exprs.specs.Scopes.{is_text}
 use Rattle.expr_binder.specs.Meaning.{place_of}
 use Rattle.sql_binder.specs.Orders.{Single, item_tests, first_from, number_from, item_of, named_from, named_or, whole, position, column_of_key, sort_key, key_of, order}
 use Rattle.physical_plan.proofs.Everywhere.{both_true, and_parts}

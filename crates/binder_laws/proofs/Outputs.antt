@@ -7,9 +7,9 @@ use Rattle.dfx_value.specs.declared.kind.Kind.TheVariants as kind
 use Rattle.sql_grammar.specs.declared.ast.ExprAst.{ExprAst}
 use Rattle.sql_grammar.specs.declared.ast.ItemAst.{ItemAst}
 use Rattle.sql_grammar.specs.declared.ast.ItemAst.TheVariants as item
-use Rattle.expr_binder.specs.declared.refusal.Why.TheVariants as why
-use Rattle.expr_binder.specs.Scopes.{Columns, is_unknown}
-use Rattle.expr_binder.specs.Typed.{settled}
+use Rattle.typed_exprs.specs.declared.refusal.Why.TheVariants as why
+use Rattle.typed_exprs.specs.Scopes.{Columns, is_unknown}
+use Rattle.typed_exprs.specs.Typed.{settled}
 use Rattle.expr_binder.specs.Groups.{Groups, Over}
 use Rattle.expr_binder.specs.Meaning.{meaning}
 use Rattle.join_lowering.specs.Keys.{columns as columns_of}

@@ -8,14 +8,14 @@ use Rattle.dfx_value.specs.declared.value.Value.TheVariants as value
 use Rattle.scalar_exprs.specs.declared.expr.Expr.{Expr}
 use Rattle.scalar_exprs.specs.declared.expr.Expr.TheVariants as expr
 use Rattle.scalar_exprs.specs.Kinds.{same, when_bool, when_number, cast_kind}
-use Rattle.expr_binder.specs.declared.case.Arm.{Arm}
-use Rattle.expr_binder.specs.declared.typed.Typed.{Typed}
-use Rattle.expr_binder.specs.declared.typed.Typed.TheVariants as typed
-use Rattle.expr_binder.specs.declared.typed.Unary.{Unary}
-use Rattle.expr_binder.specs.declared.typed.Unary.TheVariants as operator
-use Rattle.expr_binder.specs.Answer.{◌>>=◌}
-use Rattle.expr_binder.specs.Case.{tests, results, arm_as, chosen}
-use Rattle.expr_binder.specs.Typed.{Kinded, given, settled, kind_or, or_mismatch, of_kind, unary, alone, operator_kind, binary, common, as_kind, coalesced, tested}
+use Rattle.typed_exprs.specs.declared.case.Arm.{Arm}
+use Rattle.typed_exprs.specs.declared.typed.Typed.{Typed}
+use Rattle.typed_exprs.specs.declared.typed.Typed.TheVariants as typed
+use Rattle.typed_exprs.specs.declared.typed.Unary.{Unary}
+use Rattle.typed_exprs.specs.declared.typed.Unary.TheVariants as operator
+use Rattle.typed_exprs.specs.Answer.{◌>>=◌}
+use Rattle.typed_exprs.specs.Case.{tests, results, arm_as, chosen}
+use Rattle.typed_exprs.specs.Typed.{Kinded, given, settled, kind_or, or_mismatch, of_kind, unary, alone, operator_kind, binary, common, as_kind, coalesced, tested}
 use Rattle.join_lowering.specs.Keys.{columns}
 use Rattle.join_lowering.specs.Words.{arm_columns, all_columns}
 use Rattle.join_lowering.proofs.Nodes.{columns-Column, columns-Const, columns-Not, columns-Neg, columns-IsNull, columns-Binary, columns-Case, columns-Coalesce, columns-Cast}

@@ -11,15 +11,15 @@ use Rattle.sql_grammar.specs.declared.ast.NodeAst.TheOpen.{NodeAst-F, ExprAst-F}
 use Rattle.sql_grammar.specs.declared.ast.NodeAst.TheViews.{out-roll-ExprAst, out-roll-NodeAst, roll-out-ExprAst}
 use Rattle.sql_grammar.specs.declared.ast.NodeAst.TheFolds.{map-ExprAst, map-NodeAst, ind-ExprAst, fold-roll-ExprAst, fold-roll-NodeAst}
 use Rattle.sql_grammar.specs.declared.ast.NodeAst.TheVariants as node
-use Rattle.expr_binder.specs.declared.typed.Typed.{Typed}
-use Rattle.expr_binder.specs.declared.typed.Unary.TheVariants as operator
-use Rattle.expr_binder.specs.declared.refusal.Why.{Why}
-use Rattle.expr_binder.specs.declared.refusal.Why.TheVariants as why
-use Rattle.expr_binder.specs.Answer.{Answer, ◌>>=◌, refuse_if}
-use Rattle.expr_binder.specs.Case.{chosen}
+use Rattle.typed_exprs.specs.declared.typed.Typed.{Typed}
+use Rattle.typed_exprs.specs.declared.typed.Unary.TheVariants as operator
+use Rattle.typed_exprs.specs.declared.refusal.Why.{Why}
+use Rattle.typed_exprs.specs.declared.refusal.Why.TheVariants as why
+use Rattle.typed_exprs.specs.Answer.{Answer, ◌>>=◌, refuse_if}
+use Rattle.typed_exprs.specs.Case.{chosen}
 use Rattle.expr_binder.specs.Same.{same_column, same_name, same_truth, function_rank, op_rank, Is, all_same, arms_same, same_layer, same_node, same_expr, same, same_nodes, same_arm}
-use Rattle.expr_binder.specs.Scopes.{Columns, is_text, is_named, is_unknown, numbers, the_one, column_of}
-use Rattle.expr_binder.specs.Typed.{unary, binary}
+use Rattle.typed_exprs.specs.Scopes.{Columns, is_text, is_named, is_unknown, numbers, the_one, column_of}
+use Rattle.typed_exprs.specs.Typed.{unary, binary}
 use Rattle.expr_binder.specs.Meaning.{meaning, of_node, node_of, place_of, meanings, arm_meaning, arms_meaning, other_meaning, applied, named}
 use Rattle.expr_binder.proofs.MeaningSteps.{meaning_is, node-Name, node-Call, node-Not, node-Neg, node-IsNull, node-Binary, node-Case, node-Cast}
 use Rattle.physical_plan.proofs.Everywhere.{both_true}

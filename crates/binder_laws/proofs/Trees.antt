@@ -7,7 +7,7 @@ use Rattle.sql_grammar.specs.declared.ast.FromAst.TheOpen.{FromAst-F}
 use Rattle.sql_grammar.specs.declared.ast.FromAst.TheVariants.{Named, Derived, rolls-Named, rolls-Derived}
 use Rattle.sql_grammar.specs.declared.ast.FromAst.TheFolds.{fold-roll-FromAst, fold_out-SelectAst, fold_out-JoinAst}
 use Rattle.sql_grammar.specs.declared.ast.FromAst.TheViews.{out-SelectAst, out-JoinAst}
-use Rattle.expr_binder.specs.Answer.{◌>>=◌}
+use Rattle.typed_exprs.specs.Answer.{◌>>=◌}
 use Rattle.sql_tables.specs.declared.table.Table.{Table}
 use Rattle.sql_binder.specs.Sources.{Reading, Joining, table, derived, from, filtered}
 use Rattle.sql_binder.specs.Selects.{Selecting, reading, joining, selecting, select, reading_of, joining_of, union_of, selected, parts}

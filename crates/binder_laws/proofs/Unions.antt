@@ -5,8 +5,8 @@ use Rattle.std.proofs.lemmas.Bool.{eq-eqb, lt-ltb}
 use Rattle.dfx_value.specs.declared.kind.Kind.{Kind}
 use Rattle.logical_plan.specs.declared.plan.Logical.{Logical}
 use Rattle.logical_plan.specs.declared.plan.Logical.TheVariants as plan
-use Rattle.expr_binder.specs.declared.refusal.Why.TheVariants as why
-use Rattle.expr_binder.specs.Typed.{unified}
+use Rattle.typed_exprs.specs.declared.refusal.Why.TheVariants as why
+use Rattle.typed_exprs.specs.Typed.{unified}
 use Rattle.sql_binder.specs.declared.selected.Selected.{Selected}
 use Rattle.sql_binder.specs.Each.{each}
 use Rattle.logical_build.specs.Unions.{unified_after, all_unified, are_same, cast, casts, cast_if, with_kinds}
@@ -20,7 +20,7 @@ use Rattle.planned_laws.proofs.BodyNodes.{holds-Project, width-Project, holds-Un
 use Rattle.planned_laws.proofs.Below.{below_append}
 use Rattle.join_lowering.specs.Keys.{columns}
 use Rattle.scalar_exprs.specs.declared.expr.Expr.TheVariants as expr
-use Rattle.expr_binder.specs.declared.typed.Typed.TheVariants as typed
+use Rattle.typed_exprs.specs.declared.typed.Typed.TheVariants as typed
 use Rattle.binder_laws.proofs.Readings.{as_kind_reads, column_reads}
 use Rattle.binder_laws.proofs.Holding.{Holds, after, where_some, weaker, Every, AreSo, each_holds}
 use Rattle.binder_laws.proofs.Items.{Fits}

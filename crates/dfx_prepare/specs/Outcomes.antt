@@ -4,8 +4,8 @@ use Rattle.sql_lexer.specs.declared.refused.LexRefused.{LexRefused}
 use Rattle.sql_lexer.specs.declared.refused.LexRefused.TheVariants as lexer
 use Rattle.sql_grammar.specs.declared.refused.SyntaxRefused.{SyntaxRefused}
 use Rattle.sql_grammar.specs.declared.refused.SyntaxRefused.TheVariants as syntax
-use Rattle.sql_binder.specs.declared.refused.BindRefused.{BindRefused}
-use Rattle.sql_binder.specs.declared.refused.BindRefused.TheVariants as binder
+use Rattle.typed_exprs.specs.declared.refused.BindRefused.{BindRefused}
+use Rattle.typed_exprs.specs.declared.refused.BindRefused.TheVariants as binder
 use Rattle.failure_text.specs.declared.failure.Failure.{Failure}
 use Rattle.failure_text.specs.declared.failure.Failure.TheVariants as failure
 

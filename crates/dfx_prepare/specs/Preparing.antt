@@ -10,9 +10,9 @@ use Rattle.sql_grammar.specs.Parsed.{parsed}
 use Rattle.sql_grammar.specs.declared.ast.Script.{Script}
 use Rattle.sql_grammar.specs.declared.ast.TableAst.{TableAst}
 use Rattle.sql_grammar.specs.declared.refused.SyntaxRefused.{SyntaxRefused}
-use Rattle.expr_binder.specs.Answer.{Answer}
+use Rattle.typed_exprs.specs.Answer.{Answer}
 use Rattle.sql_binder.specs.Bound.{bound}
-use Rattle.sql_binder.specs.Refusals.{named}
+use Rattle.typed_exprs.specs.Refusals.{named}
 use Rattle.sql_tables.specs.Tables.{declared}
 use Rattle.sql_tables.specs.declared.schema.Schema.{Schema}
 use Rattle.logical_plan.specs.declared.query.Query.{Query}

@@ -10,7 +10,7 @@ use Rattle.sql_grammar.specs.declared.ast.NodeAst.TheFolds.{para-roll-ExprAst, p
 use Rattle.sql_grammar.specs.declared.ast.NodeAst.TheVariants as node
 use Rattle.expr_binder.specs.Calls.{Calls, Part, calls_of, calls_in, of_layer, node_calls, expr_calls, of_parts, of_arms, is_aggregate, calls_of_all, calls_of_arm, calls_of_arms, calls_of_other, with_calls, with_call}
 use Rattle.expr_binder.specs.Meaning.{node_of}
-use Rattle.expr_binder.specs.Scopes.{Columns}
+use Rattle.typed_exprs.specs.Scopes.{Columns}
 
 -- ---- lists of calls
 

@@ -1,5 +1,4 @@
 pub mod SameLemmas
 pub mod MeaningSteps
 pub mod CallSteps
-pub mod Examples
 pub mod MeaningExamples

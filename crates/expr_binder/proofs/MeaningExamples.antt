@@ -9,15 +9,15 @@ use Rattle.sql_grammar.specs.declared.ast.ExprAst.{ExprAst, roll-ExprAst, out-Ex
 use Rattle.sql_grammar.specs.declared.ast.NodeAst.{NodeAst, out-NodeAst}
 use Rattle.sql_grammar.specs.declared.ast.NodeAst.TheVariants as node
 use Rattle.sql_grammar.specs.declared.ast.NodeAst.TheFolds.{fold-roll-ExprAst, fold_out-NodeAst, map-NodeAst}
-use Rattle.expr_binder.specs.Answer.{refuse}
+use Rattle.typed_exprs.specs.Answer.{refuse}
 use Rattle.expr_binder.specs.Calls.{with_expr}
 use Rattle.expr_binder.specs.Groups.{Over}
 use Rattle.expr_binder.specs.Meaning.{meaning, node_of}
 use Rattle.expr_binder.specs.Same.{Is, same, same_nodes, same_node, same_expr, same_layer}
-use Rattle.expr_binder.specs.Scopes.{Columns}
-use Rattle.expr_binder.specs.declared.refusal.Why.TheVariants as why
-use Rattle.expr_binder.specs.declared.typed.Typed.TheVariants as typed
-use Rattle.expr_binder.proofs.Examples.{here}
+use Rattle.typed_exprs.specs.Scopes.{Columns}
+use Rattle.typed_exprs.specs.declared.refusal.Why.TheVariants as why
+use Rattle.typed_exprs.specs.declared.typed.Typed.TheVariants as typed
+use Rattle.typed_exprs.proofs.Examples.{here}
 use Rattle.expr_binder.proofs.CallSteps.{steps}
 use Rattle.expr_binder.proofs.MeaningSteps.{meaning_is, nodes}
 

@@ -8,16 +8,16 @@ use Rattle.sql_grammar.specs.declared.ast.NodeAst.{NodeAst, roll-NodeAst}
 use Rattle.sql_grammar.specs.declared.ast.NodeAst.TheOpen.{NodeAst-F, ExprAst-F}
 use Rattle.sql_grammar.specs.declared.ast.NodeAst.TheFolds.{para-roll-ExprAst, para-roll-NodeAst, map-NodeAst}
 use Rattle.sql_grammar.specs.declared.ast.NodeAst.TheVariants as node
-use Rattle.expr_binder.specs.declared.case.Arm.{Arm}
-use Rattle.expr_binder.specs.declared.typed.Typed.{Typed}
-use Rattle.expr_binder.specs.declared.typed.Typed.TheVariants as typed
-use Rattle.expr_binder.specs.declared.typed.Unary.TheVariants as operator
-use Rattle.expr_binder.specs.Answer.{Answer, ◌>>=◌}
-use Rattle.expr_binder.specs.Case.{chosen}
+use Rattle.typed_exprs.specs.declared.case.Arm.{Arm}
+use Rattle.typed_exprs.specs.declared.typed.Typed.{Typed}
+use Rattle.typed_exprs.specs.declared.typed.Typed.TheVariants as typed
+use Rattle.typed_exprs.specs.declared.typed.Unary.TheVariants as operator
+use Rattle.typed_exprs.specs.Answer.{Answer, ◌>>=◌}
+use Rattle.typed_exprs.specs.Case.{chosen}
 use Rattle.expr_binder.specs.Groups.{Over}
-use Rattle.expr_binder.specs.Literals.{literal}
+use Rattle.typed_exprs.specs.Literals.{literal}
 use Rattle.expr_binder.specs.Meaning.{Sense, Part, meaning, of_node, of_layer, node_sense, expr_sense, or_sense, key_of, node_of, place_of, number, text, named, counted, call_meaning, case_meaning, binary_meaning, unary_meaning, truth, senses, meanings, all, arm_of, arm_meaning, arms_meaning, other_meaning, operands_over, applied}
-use Rattle.expr_binder.specs.Scopes.{Columns, column_of}
+use Rattle.typed_exprs.specs.Scopes.{Columns, column_of}
 
 -- ---- an expression
 

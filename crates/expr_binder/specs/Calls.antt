@@ -7,7 +7,7 @@ use Rattle.sql_grammar.specs.declared.ast.NodeAst.{NodeAst}
 use Rattle.sql_grammar.specs.declared.ast.NodeAst.TheOpen.{NodeAst-F, ExprAst-F}
 use Rattle.sql_grammar.specs.declared.ast.NodeAst.TheFolds.{para-ExprAst, para-NodeAst}
 use Rattle.expr_binder.specs.Same.{place_among}
-use Rattle.expr_binder.specs.Scopes.{Columns}
+use Rattle.typed_exprs.specs.Scopes.{Columns}
 
 abbrev pub Calls : Type 0
 Calls = List ExprAst

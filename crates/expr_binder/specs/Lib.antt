@@ -1,9 +1,4 @@
-pub mod Answer
-pub mod Scopes
 pub mod Same
-pub mod Literals
-pub mod Typed
-pub mod Case
 pub mod Groups
 pub mod Meaning
 pub mod Calls

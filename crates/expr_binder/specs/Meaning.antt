@@ -16,20 +16,20 @@ use Rattle.sql_grammar.specs.declared.ast.NodeAst.{NodeAst}
 use Rattle.sql_grammar.specs.declared.ast.NodeAst.TheOpen.{NodeAst-F, ExprAst-F}
 use Rattle.sql_grammar.specs.declared.ast.NodeAst.TheViews.{out-ExprAst}
 use Rattle.sql_grammar.specs.declared.ast.NodeAst.TheFolds.{para-ExprAst, para-NodeAst}
-use Rattle.expr_binder.specs.declared.case.Arm.{Arm}
-use Rattle.expr_binder.specs.declared.refusal.Why.TheVariants as why
-use Rattle.expr_binder.specs.declared.scope.Column.{Column}
-use Rattle.expr_binder.specs.declared.typed.Typed.{Typed}
-use Rattle.expr_binder.specs.declared.typed.Typed.TheVariants as typed
-use Rattle.expr_binder.specs.declared.typed.Unary.{Unary}
-use Rattle.expr_binder.specs.declared.typed.Unary.TheVariants as operator
-use Rattle.expr_binder.specs.Answer.{Answer, ◌>>=◌, refuse, or_refuse}
-use Rattle.expr_binder.specs.Case.{chosen}
+use Rattle.typed_exprs.specs.declared.case.Arm.{Arm}
+use Rattle.typed_exprs.specs.declared.refusal.Why.TheVariants as why
+use Rattle.typed_exprs.specs.declared.scope.Column.{Column}
+use Rattle.typed_exprs.specs.declared.typed.Typed.{Typed}
+use Rattle.typed_exprs.specs.declared.typed.Typed.TheVariants as typed
+use Rattle.typed_exprs.specs.declared.typed.Unary.{Unary}
+use Rattle.typed_exprs.specs.declared.typed.Unary.TheVariants as operator
+use Rattle.typed_exprs.specs.Answer.{Answer, ◌>>=◌, refuse, or_refuse}
+use Rattle.typed_exprs.specs.Case.{chosen}
 use Rattle.expr_binder.specs.Groups.{Groups, Over}
-use Rattle.expr_binder.specs.Literals.{literal}
+use Rattle.typed_exprs.specs.Literals.{literal}
 use Rattle.expr_binder.specs.Same.{place_among}
-use Rattle.expr_binder.specs.Scopes.{Columns, column_of}
-use Rattle.expr_binder.specs.Typed.{settled, or_mismatch, of_kind, unary, binary, coalesced}
+use Rattle.typed_exprs.specs.Scopes.{Columns, column_of}
+use Rattle.typed_exprs.specs.Typed.{settled, or_mismatch, of_kind, unary, binary, coalesced}
 
 -- ---- where an expression stands
 

@@ -10,8 +10,8 @@ use Rattle.sql_grammar.specs.declared.ast.NodeAst.{NodeAst}
 use Rattle.sql_grammar.specs.declared.ast.NodeAst.TheOpen.{NodeAst-F, ExprAst-F}
 use Rattle.sql_grammar.specs.declared.ast.NodeAst.TheViews.{out-ExprAst, out-NodeAst}
 use Rattle.sql_grammar.specs.declared.ast.NodeAst.TheFolds.{fold-ExprAst, fold-NodeAst}
-use Rattle.expr_binder.specs.Scopes.{Columns, column_of, is_text}
-use Rattle.expr_binder.specs.Answer.{Answer}
+use Rattle.typed_exprs.specs.Scopes.{Columns, column_of, is_text}
+use Rattle.typed_exprs.specs.Answer.{Answer}
 
 -- both name one column
 abbrev pub same_column : Answer ℕ → Answer ℕ → Bool

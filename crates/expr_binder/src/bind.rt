@@ -2,24 +2,22 @@
 
 ghost use Rattle.std.specs.Prelude.{◌≡◌, IfOk, IfSome};
 ghost use Rattle.std.specs.Option.{option_copied};
-ghost use Rattle.expr_binder.specs.Answer.{Gives};
-ghost use Rattle.expr_binder.specs.Literals.{literal as literal_of};
+ghost use Rattle.typed_exprs.specs.Answer.{Gives};
+ghost use Rattle.typed_exprs.specs.Literals.{literal as literal_of};
 ghost use Rattle.expr_binder.specs.Meaning as spec;
-ghost use Rattle.expr_binder.specs.Scopes as scopes;
+ghost use Rattle.typed_exprs.specs.Scopes as scopes;
 
-use crate::case::{Arm, chosen};
 use crate::equality::place_among;
 use crate::grouping::Grouping;
-use crate::literal::literal;
-use crate::refusal::{Unbound, Why};
-use crate::scope::{Column, column_of};
-use crate::typed::{Typed, Unary, absolute, apply_unary, binary, length_of, or_mismatch, settle};
-use crate::unify::coalesced;
 use dfx_value::{AggCall, Kind, NoMemory, Text, Value};
 use scalar_exprs::{Expr, agg_kind};
 use sql_grammar::ast::{ExprAst, FnAst, NodeAst};
 use sqlite_items::{Boxed, Items};
 use std::alloc::Global;
+use typed_exprs::{
+    Arm, Column, Typed, Unary, Unbound, Why, absolute, apply_unary, binary, chosen, coalesced,
+    column_of, length_of, literal, or_mismatch, settle,
+};
 
 /// A column with this number. More columns than `u32` counts fill more memory than there is.
 fn column(number: usize, kind: Kind) -> Result<Typed, NoMemory>

@@ -4,12 +4,12 @@ ghost use Rattle.std.specs.Prelude.{◌≡◌, OnOk};
 ghost use Rattle.expr_binder.specs.Calls as spec;
 
 use crate::equality::place_among;
-use crate::scope::Column;
 use dfx_value::NoMemory;
 use sql_grammar::ast::{ExprAst, FnAst, NodeAst};
 use sql_grammar::copy_expr;
 use sqlite_items::{Boxed, Items};
 use std::alloc::Global;
+use typed_exprs::Column;
 
 fn is_aggregate(function: FnAst) -> bool
     ensures { result ≡ spec.is_aggregate function }

@@ -3,11 +3,11 @@
 ghost use Rattle.std.specs.Prelude.{◌≡◌, map, nat_eq};
 ghost use Rattle.expr_binder.specs.Same as spec;
 
-use crate::scope::{Column, column_of};
 use dfx_value::{Kind, Op, Text};
 use scalar_exprs::same as same_kind;
 use sql_grammar::ast::{ExprAst, FnAst, NodeAst};
 use sqlite_items::Boxed;
+use typed_exprs::{Column, column_of};
 
 /// Whether both names name one column, which each names alone.
 fn same_name(

@@ -6,10 +6,10 @@ ghost use Rattle.failure_text.specs.Failures as spec;
 
 use dfx_value::{Bytes, EvalFault, NoMemory, Text};
 use run_journal::Cause;
-use sql_binder::BindRefused;
 use sql_grammar::SyntaxRefused;
 use sql_lexer::LexRefused;
 use std::alloc::Global;
+use typed_exprs::BindRefused;
 
 /// The greatest number of bytes of a script.
 const MOST: u64 = 1_048_576;

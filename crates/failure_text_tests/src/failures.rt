@@ -1,13 +1,13 @@
 use dfx_value::{EvalFault, Text};
 use failure_text::{Failure, failure_line, fault_text, status_of};
 use run_journal::Cause;
-use sql_binder::BindRefused;
 use sql_grammar::SyntaxRefused;
 use sql_lexer::LexRefused;
 use std::alloc::Global;
 use std::process::Abort;
 use std::rt::HostRuntime;
 use std::test::Fail;
+use typed_exprs::BindRefused;
 
 /// Checks the status of a failure, its text and its line.
 fn is_failure(

@@ -2,7 +2,7 @@
 use Rattle.std.proofs.Common.{◌≡◌, ◌≢◌, refl, ap, suc, Bool, true, false, ◌&&◌, Option, Some, None, List, [], ◌∷◌, ◌++◌, length}
 use Rattle.dfx_value.specs.declared.kind.Kind.{Kind}
 use Rattle.scalar_exprs.specs.Kinds.{same}
-use Rattle.expr_binder.specs.Typed.{unified}
+use Rattle.typed_exprs.specs.Typed.{unified}
 use Rattle.logical_build.specs.Unions.{are_same, unified_after}
 use Rattle.std.specs.Prelude.{option_and_then}
 

@@ -5,7 +5,7 @@ use Rattle.dfx_value.specs.declared.op.AggCall.{AggCall}
 use Rattle.scalar_exprs.specs.declared.expr.Expr.{Expr}
 use Rattle.logical_plan.specs.declared.plan.Logical.{Logical}
 use Rattle.logical_plan.specs.declared.plan.Logical.TheVariants as plan
-use Rattle.expr_binder.specs.Typed.{Kinded}
+use Rattle.typed_exprs.specs.Typed.{Kinded}
 
 abbrev pub columns_from : ℕ → ℕ → List ℕ
 columns_from k zero = []

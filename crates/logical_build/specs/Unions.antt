@@ -6,8 +6,8 @@ use Rattle.scalar_exprs.specs.declared.expr.Expr.TheVariants as expr
 use Rattle.scalar_exprs.specs.Kinds.{same}
 use Rattle.logical_plan.specs.declared.plan.Logical.{Logical}
 use Rattle.logical_plan.specs.declared.plan.Logical.TheVariants as plan
-use Rattle.expr_binder.specs.declared.typed.Typed.TheVariants as typed
-use Rattle.expr_binder.specs.Typed.{unified, as_kind}
+use Rattle.typed_exprs.specs.declared.typed.Typed.TheVariants as typed
+use Rattle.typed_exprs.specs.Typed.{unified, as_kind}
 
 -- column by column, where there are as many, behind those that are done
 abbrev pub unified_after : List Kind → List Kind → List Kind → Option (List Kind)

@@ -5,11 +5,11 @@ ghost use Rattle.logical_build.specs.Unions as spec;
 
 use crate::number::as_u32;
 use dfx_value::{Kind, NoMemory, Seq};
-use expr_binder::{Typed, as_kind, unified};
 use logical_plan::Logical;
 use scalar_exprs::{Expr, same};
 use sqlite_items::{Boxed, Items};
 use std::alloc::Global;
+use typed_exprs::{Typed, as_kind, unified};
 
 /// The kinds unified column by column, where there are as many and they unify.
 #[tactic(auto, using(crate::proofs::Uneven::not_unified))]

@@ -8,7 +8,7 @@ use Rattle.sql_grammar.specs.Parsed.{parsed}
 use Rattle.sql_grammar.specs.declared.refused.SyntaxRefused.{SyntaxRefused}
 use Rattle.sql_grammar.specs.declared.ast.Script.{Script}
 use Rattle.sql_grammar.specs.declared.ast.TableAst.{TableAst}
-use Rattle.expr_binder.specs.Answer.{Answer}
+use Rattle.typed_exprs.specs.Answer.{Answer}
 use Rattle.sql_binder.specs.Bound.{bound}
 use Rattle.logical_plan.specs.declared.query.Query.{Query}
 use Rattle.dfx_prepare.specs.Preparing.{Path, schema_of, of_parsed, of_tokens, script_of, of_bound, query_of, plan_of, table_files, followed, files_of, with_files, prepared_over, prepared_script, prepared}

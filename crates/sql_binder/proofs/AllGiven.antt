@@ -5,8 +5,8 @@ use Rattle.std.proofs.Math.ListN.{drop_of_length-le}
 use Rattle.std.proofs.lemmas.List.{drop_more}
 use Rattle.dfx_value.specs.declared.kind.Kind.TheVariants as kind
 use Rattle.sql_grammar.specs.declared.ast.ExprAst.{ExprAst}
-use Rattle.expr_binder.specs.declared.scope.Column.{Column}
-use Rattle.expr_binder.specs.Scopes.{Columns, numbers_from}
+use Rattle.typed_exprs.specs.declared.scope.Column.{Column}
+use Rattle.typed_exprs.specs.Scopes.{Columns, numbers_from}
 use Rattle.sql_binder.specs.Items.{is_given, given, is_column}
 use Rattle.sql_binder.specs.Orders.{column_tests, first_from}
 

@@ -5,7 +5,7 @@ use Rattle.std.proofs.lemmas.List.{drop_all, drop_more, length-map}
 use Rattle.sql_grammar.specs.declared.ast.ExprAst.{ExprAst}
 use Rattle.sql_grammar.specs.declared.ast.ItemAst.{ItemAst}
 use Rattle.sql_grammar.specs.declared.ast.ItemAst.TheVariants as item
-use Rattle.expr_binder.specs.Scopes.{Columns}
+use Rattle.typed_exprs.specs.Scopes.{Columns}
 use Rattle.sql_binder.specs.Orders.{first_from, tests_of, item_tests, number_in, number_from}
 use Rattle.sql_binder.specs.Items.{given, is_column, width_of}
 

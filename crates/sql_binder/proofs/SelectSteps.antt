@@ -9,7 +9,7 @@ use Rattle.sql_grammar.specs.declared.ast.FromAst.TheOpen.{FromAst-F}
 use Rattle.sql_grammar.specs.declared.ast.FromAst.TheVariants.{Named, Derived, rolls-Named, rolls-Derived}
 use Rattle.sql_grammar.specs.declared.ast.FromAst.TheFolds.{fold-roll-FromAst, fold_out-SelectAst, fold_out-JoinAst}
 use Rattle.sql_grammar.specs.declared.ast.FromAst.TheViews.{out-SelectAst, out-JoinAst}
-use Rattle.expr_binder.specs.Answer.{Answer, ◌>>=◌}
+use Rattle.typed_exprs.specs.Answer.{Answer, ◌>>=◌}
 use Rattle.sql_binder.specs.declared.selected.Selected.{Selected}
 use Rattle.sql_binder.specs.Each.{each_after}
 use Rattle.sql_binder.specs.Unions.{Placed}

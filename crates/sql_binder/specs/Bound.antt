@@ -4,8 +4,8 @@ use Rattle.logical_plan.specs.declared.query.Query.{Query}
 use Rattle.sql_grammar.specs.declared.ast.Script.{Script}
 use Rattle.sql_grammar.specs.declared.ast.SelectAst.{SelectAst}
 use Rattle.sql_grammar.specs.declared.ast.FromAst.TheViews.{out-SelectAst}
-use Rattle.expr_binder.specs.Answer.{Answer, ◌>>=◌}
-use Rattle.expr_binder.specs.Scopes.{Columns}
+use Rattle.typed_exprs.specs.Answer.{Answer, ◌>>=◌}
+use Rattle.typed_exprs.specs.Scopes.{Columns}
 use Rattle.sql_tables.specs.declared.schema.Schema.{Schema}
 use Rattle.sql_binder.specs.declared.selected.Selected.{Selected}
 use Rattle.sql_binder.specs.Orders.{Single, order, limit, offset}

@@ -1,6 +1,6 @@
 -- Meaning: a list, one after the other, to the first refusal.
 use Rattle.std.specs.Prelude.{List, [], ◌∷◌, ◌++◌, Ok}
-use Rattle.expr_binder.specs.Answer.{Answer, ◌>>=◌}
+use Rattle.typed_exprs.specs.Answer.{Answer, ◌>>=◌}
 
 -- behind those that are done
 abbrev pub each_after : {A B : Type 0} → (A → Answer B) → List B → List A → Answer (List B)

@@ -8,10 +8,10 @@ use Rattle.sql_grammar.specs.declared.ast.NodeAst.TheOpen.{NodeAst-F}
 use Rattle.sql_grammar.specs.declared.ast.NodeAst.TheViews.{out-ExprAst, out-NodeAst}
 use Rattle.sql_grammar.specs.declared.ast.ItemAst.{ItemAst}
 use Rattle.sql_grammar.specs.declared.ast.ItemAst.TheVariants as item
-use Rattle.expr_binder.specs.declared.refusal.Why.TheVariants as why
-use Rattle.expr_binder.specs.Answer.{Answer, ◌>>=◌, refuse, refuse_if}
-use Rattle.expr_binder.specs.Scopes.{Columns}
-use Rattle.expr_binder.specs.Typed.{Kinded, settled, tested}
+use Rattle.typed_exprs.specs.declared.refusal.Why.TheVariants as why
+use Rattle.typed_exprs.specs.Answer.{Answer, ◌>>=◌, refuse, refuse_if}
+use Rattle.typed_exprs.specs.Scopes.{Columns}
+use Rattle.typed_exprs.specs.Typed.{Kinded, settled, tested}
 use Rattle.expr_binder.specs.Groups.{Over}
 use Rattle.expr_binder.specs.Meaning.{meaning, place_of}
 use Rattle.logical_build.specs.Calls.{arguments_of}

@@ -10,12 +10,12 @@ use Rattle.sql_grammar.specs.declared.ast.NodeAst.TheOpen.{NodeAst-F}
 use Rattle.sql_grammar.specs.declared.ast.NodeAst.TheViews.{out-ExprAst, out-NodeAst}
 use Rattle.sql_grammar.specs.declared.ast.ItemAst.{ItemAst}
 use Rattle.sql_grammar.specs.declared.ast.ItemAst.TheVariants as item
-use Rattle.expr_binder.specs.declared.refusal.Why.TheVariants as why
-use Rattle.expr_binder.specs.declared.scope.Column.{Column}
-use Rattle.expr_binder.specs.Answer.{Answer, ◌>>=◌, refuse, refuse_if}
+use Rattle.typed_exprs.specs.declared.refusal.Why.TheVariants as why
+use Rattle.typed_exprs.specs.declared.scope.Column.{Column}
+use Rattle.typed_exprs.specs.Answer.{Answer, ◌>>=◌, refuse, refuse_if}
 use Rattle.expr_binder.specs.Same.{same_column}
-use Rattle.expr_binder.specs.Scopes.{Columns, column_of, is_unknown, is_under, numbers}
-use Rattle.expr_binder.specs.Typed.{Kinded, settled}
+use Rattle.typed_exprs.specs.Scopes.{Columns, column_of, is_unknown, is_under, numbers}
+use Rattle.typed_exprs.specs.Typed.{Kinded, settled}
 use Rattle.expr_binder.specs.Groups.{Over, Groups}
 use Rattle.expr_binder.specs.Meaning.{meaning, column_kind, place_of}
 use Rattle.logical_build.specs.declared.outputs.Output.{Output}

@@ -10,11 +10,11 @@ use Rattle.sql_grammar.specs.declared.ast.ItemAst.{ItemAst}
 use Rattle.sql_grammar.specs.declared.ast.ItemAst.TheVariants as item
 use Rattle.sql_grammar.specs.declared.ast.KeyAst.{KeyAst}
 use Rattle.sql_grammar.specs.declared.ast.NumberAst.{NumberAst}
-use Rattle.expr_binder.specs.declared.refusal.Why.TheVariants as why
-use Rattle.expr_binder.specs.Answer.{Answer, ◌>>=◌, refuse, or_refuse}
-use Rattle.expr_binder.specs.Literals.{has_point}
+use Rattle.typed_exprs.specs.declared.refusal.Why.TheVariants as why
+use Rattle.typed_exprs.specs.Answer.{Answer, ◌>>=◌, refuse, or_refuse}
+use Rattle.typed_exprs.specs.Literals.{has_point}
 use Rattle.expr_binder.specs.Same.{same}
-use Rattle.expr_binder.specs.Scopes.{Columns, is_text}
+use Rattle.typed_exprs.specs.Scopes.{Columns, is_text}
 use Rattle.expr_binder.specs.Meaning.{place_of}
 use Rattle.sql_binder.specs.declared.orders.Single.{Single as Held}
 use Rattle.sql_binder.specs.Each.{each}

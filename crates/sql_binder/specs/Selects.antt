@@ -9,10 +9,10 @@ use Rattle.sql_grammar.specs.declared.ast.FromAst.TheFolds.{fold-SelectAst, fold
 use Rattle.sql_grammar.specs.declared.ast.FromAst.TheViews.{out-SelectAst}
 use Rattle.sql_grammar.specs.declared.ast.FromAst.{FromAst}
 use Rattle.sql_grammar.specs.declared.ast.JoinAst.{JoinAst}
-use Rattle.expr_binder.specs.Scopes.{Columns}
-use Rattle.expr_binder.specs.Answer.{Answer, ◌>>=◌}
+use Rattle.typed_exprs.specs.Scopes.{Columns}
+use Rattle.typed_exprs.specs.Answer.{Answer, ◌>>=◌}
 use Rattle.expr_binder.specs.Groups.{Over}
-use Rattle.expr_binder.specs.Typed.{Kinded}
+use Rattle.typed_exprs.specs.Typed.{Kinded}
 use Rattle.sql_tables.specs.declared.table.Table.{Table}
 use Rattle.sql_binder.specs.declared.sources.Source.{Source}
 use Rattle.sql_binder.specs.declared.selected.Selected.{Selected}

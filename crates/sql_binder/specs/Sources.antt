@@ -6,11 +6,11 @@ use Rattle.scalar_exprs.specs.declared.expr.Expr.{Expr}
 use Rattle.logical_plan.specs.declared.plan.Logical.{Logical}
 use Rattle.logical_plan.specs.declared.plan.Logical.TheVariants as plan
 use Rattle.sql_grammar.specs.declared.ast.ExprAst.{ExprAst}
-use Rattle.expr_binder.specs.declared.refusal.Why.TheVariants as why
-use Rattle.expr_binder.specs.declared.scope.Column.{Column}
-use Rattle.expr_binder.specs.Answer.{Answer, ◌>>=◌, refuse, or_refuse, refuse_if}
-use Rattle.expr_binder.specs.Scopes.{Columns, is_text, is_under, any_is}
-use Rattle.expr_binder.specs.Typed.{tested}
+use Rattle.typed_exprs.specs.declared.refusal.Why.TheVariants as why
+use Rattle.typed_exprs.specs.declared.scope.Column.{Column}
+use Rattle.typed_exprs.specs.Answer.{Answer, ◌>>=◌, refuse, or_refuse, refuse_if}
+use Rattle.typed_exprs.specs.Scopes.{Columns, is_text, is_under, any_is}
+use Rattle.typed_exprs.specs.Typed.{tested}
 use Rattle.expr_binder.specs.Meaning.{meaning, place_of}
 use Rattle.join_lowering.specs.declared.lower.Side.{Side}
 use Rattle.join_lowering.specs.Lowering.{lowered}

@@ -1,7 +1,7 @@
 //! Aggregate calls, and HAVING.
 
 ghost use Rattle.std.specs.Prelude.{◌≡◌, IfOk, map, Some};
-ghost use Rattle.expr_binder.specs.Answer.{Gives};
+ghost use Rattle.typed_exprs.specs.Answer.{Gives};
 ghost use Rattle.logical_build.specs.Calls.{argument as argument_of};
 ghost use Rattle.sql_binder.specs.Grouped as spec;
 

@@ -1,13 +1,12 @@
 //! From the tree of a script to its query.
 
 ghost use Rattle.std.specs.Prelude.{◌≡◌, option_map};
-ghost use Rattle.expr_binder.specs.Answer.{Gives};
+ghost use Rattle.typed_exprs.specs.Answer.{Gives};
 ghost use Rattle.sql_binder.specs.Bound as spec;
 ghost use Rattle.sql_binder.specs.Orders.{viewed};
 ghost use Rattle.sql_binder.specs.Refusals.{IsBound};
 
 use crate::orders::{Single, limit, offset, order};
-use crate::refused::BindRefused;
 use crate::selected::Selected;
 use crate::selects::bind_parts;
 use dfx_value::{Seq, SortKey};
@@ -16,6 +15,7 @@ use logical_plan::Query;
 use sql_grammar::ast::{Script, SelectAst};
 use sql_tables::{Schema, tables};
 use std::alloc::Global;
+use typed_exprs::BindRefused;
 
 fn single<'a>(columns: &'a [Column], parts: &'a [SelectAst]) -> Option<Single<'a>>
     ensures { option_map viewed result ≡ spec.single columns.now parts.now }

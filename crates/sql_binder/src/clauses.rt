@@ -1,7 +1,7 @@
 //! The clauses of a select over groups, bound in text order.
 
 ghost use Rattle.std.specs.Prelude.{◌≡◌};
-ghost use Rattle.expr_binder.specs.Answer.{Gives};
+ghost use Rattle.typed_exprs.specs.Answer.{Gives};
 ghost use Rattle.sql_binder.specs.Selects as spec;
 
 use crate::aggregates::having;

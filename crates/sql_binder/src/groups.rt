@@ -1,7 +1,7 @@
 //! The keys of GROUP BY.
 
 ghost use Rattle.std.specs.Prelude.{◌≡◌};
-ghost use Rattle.expr_binder.specs.Answer.{Gives};
+ghost use Rattle.typed_exprs.specs.Answer.{Gives};
 ghost use Rattle.sql_binder.specs.Grouped as spec;
 
 use dfx_value::{Kind, Seq};

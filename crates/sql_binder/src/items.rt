@@ -2,7 +2,7 @@
 
 ghost use Rattle.std.specs.Prelude.{◌≡◌, ◌<◌, ◌+◌, ◌++◌, ◌∷◌, [], All, IfOk, Some, length, codes};
 ghost use Rattle.std.specs.Option.{option_copied};
-ghost use Rattle.expr_binder.specs.Answer.{Gives};
+ghost use Rattle.typed_exprs.specs.Answer.{Gives};
 ghost use Rattle.std.specs.Fmt.{decimal};
 ghost use Rattle.scalar_exprs.specs.declared.expr.Expr.TheVariants as expr;
 ghost use Rattle.expr_binder.specs.Meaning.{column_kind};

@@ -7,12 +7,11 @@ mod clauses;
 mod groups;
 mod items;
 mod orders;
-mod refused;
 mod selected;
 mod selects;
 mod sources;
 mod unions;
 
 pub use binding::bind;
-pub use refused::BindRefused;
 pub use sql_tables::Schema;
+pub use typed_exprs::BindRefused;

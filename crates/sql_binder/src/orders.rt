@@ -1,8 +1,8 @@
 //! ORDER BY, LIMIT and OFFSET.
 
 ghost use Rattle.std.specs.Prelude.{◌≡◌, ◌<◌, ◌+◌, ◌∷◌, suc, drop, Some, None, IfOk, IfSome, length, option_map};
-ghost use Rattle.expr_binder.specs.Literals.{has_point as has_point_in};
-ghost use Rattle.expr_binder.specs.Answer.{Gives};
+ghost use Rattle.typed_exprs.specs.Literals.{has_point as has_point_in};
+ghost use Rattle.typed_exprs.specs.Answer.{Gives};
 ghost use Rattle.sql_binder.specs.Orders as spec;
 
 use crate::items::{is_column, width_of};

@@ -1,7 +1,7 @@
 //! Selects, and the tree of them.
 
 ghost use Rattle.std.specs.Prelude.{◌≡◌, IfOk, map};
-ghost use Rattle.expr_binder.specs.Answer.{Gives};
+ghost use Rattle.typed_exprs.specs.Answer.{Gives};
 ghost use Rattle.sql_binder.specs.Each.{each};
 ghost use Rattle.sql_binder.specs.Selects as spec;
 ghost use Rattle.sql_binder.specs.Sources as sources;

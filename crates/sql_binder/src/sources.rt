@@ -2,10 +2,10 @@
 
 ghost use Rattle.std.specs.Prelude.{◌≡◌, ◌++◌, ◌<◌, IfOk, IfSome, Some, length, option_map};
 ghost use Rattle.std.specs.Option.{option_copied};
-ghost use Rattle.expr_binder.specs.Answer.{Gives};
-ghost use Rattle.expr_binder.specs.Scopes.{any_is, is_under as is_under_alias, is_unknown as is_unknown_alias};
-ghost use Rattle.expr_binder.specs.Answer.{or_refuse};
-ghost use Rattle.expr_binder.specs.declared.refusal.Why.TheVariants as why;
+ghost use Rattle.typed_exprs.specs.Answer.{Gives};
+ghost use Rattle.typed_exprs.specs.Scopes.{any_is, is_under as is_under_alias, is_unknown as is_unknown_alias};
+ghost use Rattle.typed_exprs.specs.Answer.{or_refuse};
+ghost use Rattle.typed_exprs.specs.declared.refusal.Why.TheVariants as why;
 ghost use Rattle.join_lowering.specs.Lowering.{lowered};
 ghost use Rattle.sql_binder.specs.Sources as spec;
 

@@ -1,7 +1,7 @@
 //! Selects united.
 
 ghost use Rattle.std.specs.Prelude.{◌≡◌, ◌∷◌, IfOk};
-ghost use Rattle.expr_binder.specs.Answer.{Gives};
+ghost use Rattle.typed_exprs.specs.Answer.{Gives};
 ghost use Rattle.sql_binder.specs.Unions as spec;
 
 use crate::selected::Selected;

@@ -3,7 +3,7 @@ use Rattle.std.proofs.Common.{◌≡◌, refl, ap, sym, ◌∙◌, ℕ, List, []
 use Rattle.std.proofs.Math.ListN.{drop_of_length-le}
 use Rattle.std.proofs.lemmas.List.{append-nil}
 use Rattle.dfx_value.specs.declared.kind.Kind.{Kind}
-use Rattle.expr_binder.specs.Scopes.{Columns}
+use Rattle.typed_exprs.specs.Scopes.{Columns}
 use Rattle.sql_tables.specs.Tables.{columns_under}
 
 columns_of_none : (alias : List ℕ) (ns : List (List ℕ)) → columns_under alias ns [] ≡ []

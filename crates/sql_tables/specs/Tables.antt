@@ -2,10 +2,10 @@
 use Rattle.std.specs.Prelude.{ℕ, not, ◌&&◌, ◌||◌, Bool, true, false, codes, List, [], ◌∷◌, ◌++◌, map, Ok, if◌then◌else◌}
 use Rattle.dfx_value.specs.declared.kind.Kind.{Kind}
 use Rattle.sql_grammar.specs.declared.ast.TableAst.{TableAst}
-use Rattle.expr_binder.specs.declared.refusal.Why.TheVariants as why
-use Rattle.expr_binder.specs.declared.scope.Column.{Column}
-use Rattle.expr_binder.specs.Answer.{Answer, ◌>>=◌, refuse, refuse_if}
-use Rattle.expr_binder.specs.Scopes.{Columns, is_text}
+use Rattle.typed_exprs.specs.declared.refusal.Why.TheVariants as why
+use Rattle.typed_exprs.specs.declared.scope.Column.{Column}
+use Rattle.typed_exprs.specs.Answer.{Answer, ◌>>=◌, refuse, refuse_if}
+use Rattle.typed_exprs.specs.Scopes.{Columns, is_text}
 use Rattle.sql_tables.specs.declared.schema.Schema.{Schema}
 use Rattle.sql_tables.specs.declared.table.Table.{Table}
 

@@ -1,15 +1,15 @@
 //! The tables that a script declares.
 
 ghost use Rattle.std.specs.Prelude.{◌≡◌, IfOk};
-ghost use Rattle.expr_binder.specs.Answer.{Gives};
+ghost use Rattle.typed_exprs.specs.Answer.{Gives};
 ghost use Rattle.sql_tables.specs.Tables as spec;
 
 use crate::schema::Schema;
 use crate::table::Table;
 use dfx_value::{Kind, NoMemory, Seq, Text};
-use expr_binder::{Column, Refusal, Unbound, Why};
 use sql_grammar::ast::TableAst;
 use std::alloc::Global;
+use typed_exprs::{Column, Refusal, Unbound, Why};
 
 fn is_among(name: &Text, names: &[Text]) -> bool
     ensures { result ≡ spec.is_among name.now names.now }

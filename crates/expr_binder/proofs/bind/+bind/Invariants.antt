@@ -1,6 +1,6 @@
 use Rattle.std.proofs.Common.{◌≡◌, List, ◌++◌, drop, Ok, Err}
 use Rattle.std.specs.Option.{option_copied}
-use Rattle.expr_binder.specs.Answer.{Answer}
+use Rattle.typed_exprs.specs.Answer.{Answer}
 use Rattle.expr_binder.specs.Meaning.{meanings, arms_meaning}
 use Rattle.expr_binder.proofs.bind.+bind.Given as goal
 

@@ -1,5 +1,5 @@
 use Rattle.std.proofs.Common.{◌≡◌, ◌≤◌, ◌+◌, Some, drop, length}
-use Rattle.expr_binder.specs.Scopes.{numbers_from}
+use Rattle.typed_exprs.specs.Scopes.{numbers_from}
 use Rattle.sql_binder.specs.Items.{is_given, given}
 use Rattle.sql_binder.proofs.items.count_under.Given as goal
 

@@ -1,7 +1,7 @@
 use Rattle.std.proofs.Common.{◌≡◌, ◌<◌, ◌++◌, drop, length}
 use Rattle.std.specs.Prelude.{All}
 use Rattle.std.specs.Option.{option_copied}
-use Rattle.expr_binder.specs.Scopes.{numbers_from}
+use Rattle.typed_exprs.specs.Scopes.{numbers_from}
 use Rattle.sql_binder.specs.Items as spec
 use Rattle.sql_binder.proofs.items.given.Given as goal
 

@@ -1,5 +1,5 @@
 use Rattle.std.proofs.Common.{◌≡◌, drop}
-use Rattle.expr_binder.specs.Literals.{has_point}
+use Rattle.typed_exprs.specs.Literals.{has_point}
 use Rattle.sql_binder.proofs.orders.has_point.Given as goal
 
 -- none so far

@@ -1,6 +1,6 @@
 use Rattle.std.proofs.Common.{◌≡◌, ◌≤◌, ◌+◌, ℕ, List, Option, Some, None, drop, length}
 use Rattle.std.specs.Prelude.{map}
-use Rattle.expr_binder.specs.Scopes.{numbers_from}
+use Rattle.typed_exprs.specs.Scopes.{numbers_from}
 use Rattle.sql_binder.specs.Items.{is_column, is_given}
 use Rattle.sql_binder.specs.Orders as spec
 use Rattle.sql_binder.proofs.orders.number_under.Given as goal

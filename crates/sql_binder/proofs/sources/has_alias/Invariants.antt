@@ -1,5 +1,5 @@
 use Rattle.std.proofs.Common.{◌≡◌, Some, drop}
-use Rattle.expr_binder.specs.Scopes.{any_is, is_under}
+use Rattle.typed_exprs.specs.Scopes.{any_is, is_under}
 use Rattle.sql_binder.proofs.sources.has_alias.Given as goal
 
 -- none so far

@@ -1,8 +1,0 @@
-use Rattle.std.proofs.Common.{◌≡◌, None, drop}
-use Rattle.expr_binder.specs.Case as spec
-use Rattle.expr_binder.specs.Typed.{common_after}
-use Rattle.expr_binder.proofs.case.common_results.Given as goal
-
--- what is left answers as the whole
-abbrev pub invariant-loop-arm : goal.invariant-loop-arm
-invariant-loop-arm l = common_after l.found (spec.results (drop l.arm-index l.arms) l.other) ≡ common_after None (spec.results l.arms l.other)

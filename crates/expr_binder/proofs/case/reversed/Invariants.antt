@@ -1,8 +1,0 @@
-use Rattle.std.proofs.Common.{◌≡◌, ◌++◌, reverse, length}
-use Rattle.expr_binder.proofs.case.reversed.Given as goal
-
-abbrev pub invariant-loop-arm : goal.invariant-loop-arm
-invariant-loop-arm l = l.all ++ reverse l.arms ≡ reverse l.fn.arms
-
-abbrev pub decreases-loop-arm : goal.decreases-loop-arm
-decreases-loop-arm l = length l.arms

@@ -1,7 +1,0 @@
-use Rattle.std.proofs.Common.{◌≡◌, drop}
-use Rattle.expr_binder.specs.Literals as spec
-use Rattle.expr_binder.proofs.literal.has_point.Given as goal
-
--- none so far
-abbrev pub invariant-loop-byte : goal.invariant-loop-byte
-invariant-loop-byte l = spec.has_point (drop l.byte-index l.text) ≡ spec.has_point l.text

@@ -1,7 +1,0 @@
-use Rattle.std.proofs.Common.{◌≡◌, drop}
-use Rattle.expr_binder.specs.Literals as spec
-use Rattle.expr_binder.proofs.literal.without_zeros.Given as goal
-
--- zeros so far
-abbrev pub invariant-loop-place : goal.invariant-loop-place
-invariant-loop-place l = spec.without_zeros (drop l.place l.digits) ≡ spec.without_zeros l.digits
