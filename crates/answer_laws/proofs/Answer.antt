@@ -9,7 +9,7 @@ use Rattle.physical_plan.specs.declared.plan.Plan.{Plan}
 use Rattle.plan_shape.specs.Counts.{counts_of}
 use Rattle.plan_shape.specs.Layout.{shape}
 use Rattle.physical_plan.specs.Numbers.{numbers}
-use Rattle.plan_shape.proofs.Shapes.{is_shape}
+use Rattle.plan_shape.proofs.Lawful.{is_shape}
 use Rattle.logical_plan.specs.Items.{Item, of_rows}
 use Rattle.tree_laws.specs.Trees.{poll, Ends, gave_of}
 use Rattle.tree_laws.specs.Linked.{whole}

@@ -8,7 +8,7 @@ use Rattle.task_shape.specs.Shape.{task_at, is_group, width}
 use Rattle.physical_plan.specs.declared.plan.Plan.{Plan}
 use Rattle.plan_shape.specs.Layout.{shape}
 use Rattle.physical_plan.specs.Numbers.{numbers, numbers_from}
-use Rattle.plan_shape.proofs.Shapes.{is_shape}
+use Rattle.plan_shape.proofs.Lawful.{is_shape}
 use Rattle.history_laws.specs.Histories.{Past}
 use Rattle.logical_plan.specs.Items.{Cells, Item, of_rows, concat}
 use Rattle.tree_laws.specs.Operators.{Told, Op, IsFront, Reads, ReadsAll}

@@ -31,7 +31,7 @@ fn taken(alloc: Global, woken: &mut Woken) -> Result<Vec<u32>, AllocError>
 }
 
 // A send that is to put its batch into the channel, where nobody waits at the channel.
-#[tactic(auto, unfolding(crate::specs::Gate::sent))]
+#[tactic(auto, unfolding(gate_channels::specs::Gate::sent))]
 fn send(rt: &impl Abort, group: &mut Group<u32>, woken: &mut Woken, task: u32, channel: u32)
     requires numbers { (task < 8) × (channel < 2) }
     requires group { (length group.old.gate.channels ≡ 2) × (group.old.room ≡ 8) }
@@ -49,7 +49,7 @@ fn send(rt: &impl Abort, group: &mut Group<u32>, woken: &mut Woken, task: u32, c
 }
 
 // A send that is to wait at the gate.
-#[tactic(auto, unfolding(crate::specs::Gate::held))]
+#[tactic(auto, unfolding(gate_channels::specs::Gate::held))]
 fn hold(rt: &impl Abort, group: &mut Group<u32>, woken: &mut Woken, task: u32, channel: u32)
     requires numbers { (task < 8) × (channel < 2) }
     requires group { (length group.old.gate.channels ≡ 2) × (group.old.room ≡ 8) }
@@ -83,7 +83,7 @@ fn find_gone(rt: &impl Abort, group: &mut Group<u32>, woken: &mut Woken, task: u
 }
 
 // Drops the receiver of a channel, and gives those whom that wakes.
-#[tactic(auto, unfolding(crate::specs::Gate::dropped))]
+#[tactic(auto, unfolding(gate_channels::specs::Gate::dropped))]
 fn drop_receiver(
     alloc: Global,
     group: &mut Group<u32>,
@@ -144,7 +144,7 @@ fn a_dropped_receiver_wakes_the_gate(rt: HostRuntime) -> Result<(), Fail> {
 }
 
 #[test]
-#[tactic(auto, unfolding(crate::specs::Gate::awaited, crate::specs::Gate::ended))]
+#[tactic(auto, unfolding(gate_channels::specs::Gate::awaited, gate_channels::specs::Gate::ended))]
 fn the_last_end_wakes_the_receiver(rt: HostRuntime) -> Result<(), Fail> {
     let mut group: Group<u32> = Group::new(rt.alloc(), &[1], 3)?;
     let mut woken = Woken::new(rt.alloc(), 3)?;

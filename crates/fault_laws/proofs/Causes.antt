@@ -29,7 +29,7 @@ use Rattle.plan_tasks.specs.Sources.{files_of}
 use Rattle.plan_tasks.specs.Placed.{deal_of, HasChannels}
 use Rattle.plan_tasks.proofs.Begun.{is_start}
 use Rattle.plan_tasks.proofs.Senders.{are_senders}
-use Rattle.plan_shape.proofs.Shapes.{is_shape}
+use Rattle.plan_shape.proofs.Lawful.{is_shape}
 use Rattle.tree_laws.proofs.Turns.{settle_keeps}
 use Rattle.tree_laws.proofs.Runs.{reached as run_reached}
 use Rattle.content_laws.proofs.Flows.{exist, flows}

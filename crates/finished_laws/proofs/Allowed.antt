@@ -17,7 +17,7 @@ use Rattle.physical_plan.specs.Properties.{partitions, props}
 use Rattle.physical_plan.specs.Everywhere.{Test, everywhere, erased}
 use Rattle.physical_plan.specs.Needs.{spread_needs, order_needs}
 use Rattle.planned_laws.specs.Finished.{limited_order, LimitAtRoot, IsFinished}
-use Rattle.plan_shape.proofs.Shapes.{is_shape}
+use Rattle.plan_shape.proofs.Lawful.{is_shape}
 use Rattle.logical_plan.specs.declared.query.Query.{Query}
 use Rattle.logical_plan.specs.Items.{of_rows}
 use Rattle.logical_plan.specs.Allowed.{Allows, Allowed}

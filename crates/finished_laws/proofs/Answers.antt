@@ -13,7 +13,7 @@ use Rattle.plan_shape.specs.Layout.{shape}
 use Rattle.physical_plan.specs.Properties.{declared_of, props}
 use Rattle.physical_plan.specs.Everywhere.{everywhere}
 use Rattle.physical_plan.specs.Needs.{spread_needs, order_needs}
-use Rattle.plan_shape.proofs.Shapes.{is_shape}
+use Rattle.plan_shape.proofs.Lawful.{is_shape}
 use Rattle.sort_laws.proofs.Rows.{sorted_from_order}
 use Rattle.logical_plan.specs.Items.{Item, rows, of_rows}
 use Rattle.logical_plan.specs.Body.{Tables}

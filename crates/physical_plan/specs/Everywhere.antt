@@ -4,7 +4,6 @@ use Rattle.physical_plan.specs.declared.plan.Plan.{Plan}
 use Rattle.physical_plan.specs.declared.plan.Plan.TheVariants as plan
 use Rattle.physical_plan.specs.declared.plan.Plan.TheOpen.{Plan-F}
 use Rattle.physical_plan.specs.declared.plan.Plan.TheFolds.{fold-Plan, para-Plan, map-Plan}
-use Rattle.physical_plan.specs.Properties.{partitions}
 
 abbrev pub kids : {A : Type 0} → Plan-F A → List A
 kids (Plan-F.Scan table kinds files partitions) = []

@@ -5,6 +5,7 @@ use Rattle.plan_props.specs.declared.properties.Distribution.TheVariants as need
 use Rattle.plan_props.specs.Satisfies.{satisfies_distribution, satisfies_order}
 use Rattle.physical_plan.specs.declared.plan.Plan.TheOpen.{Plan-F}
 use Rattle.physical_plan.specs.Properties.{props, left_keys, right_keys}
+use Rattle.physical_plan.specs.Everywhere.{Test}
 
 abbrev pub group_need : List ℕ → ℕ → Distribution
 group_need [] n = need.Single
@@ -12,7 +13,9 @@ group_need (k ∷ ks) n = need.Hash (k ∷ ks) n
 
 abbrev pub spread_needs : ℕ → Test
 spread_needs n (Plan-F.FinalGroup input keys calls) = satisfies_distribution (props input) (group_need keys n)
-spread_needs n (Plan-F.HashJoin kind left right keys rest) = satisfies_distribution (props left) (need.JoinHash (left_keys keys) n) && satisfies_distribution (props right) (need.JoinHash (right_keys keys) n)
+spread_needs n (Plan-F.HashJoin kind left right keys rest) =
+    satisfies_distribution (props left) (need.JoinHash (left_keys keys) n)
+    && satisfies_distribution (props right) (need.JoinHash (right_keys keys) n)
 spread_needs n (Plan-F.Limit input skip fetch) = satisfies_distribution (props input) need.Single
 spread_needs n _ = true
 

@@ -6,6 +6,7 @@ use Rattle.physical_plan.specs.declared.plan.Plan.TheOpen.{Plan-F}
 use Rattle.physical_plan.specs.declared.plan.Plan.TheFolds.{fold-Plan}
 use Rattle.plan_shape.specs.declared.counting.StageTask.{StageTask}
 use Rattle.task_shape.specs.Shape.{TaskShape, Shape}
+use Rattle.physical_plan.specs.Numbers.{numbers, numbers_from}
 
 -- what one partition of a node needs: the channels that it receives from, by group then channel,
 -- and for each of its consumers whether it is spillable, node before inputs

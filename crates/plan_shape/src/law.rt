@@ -8,7 +8,7 @@ ghost use Rattle.plan_shape.specs.Counts.{counts_of};
 ghost use Rattle.plan_shape.specs.declared.counting.StageTask.{StageTask as Place};
 
 /// In the shape of every plan each channel has one receiver, stages grow from receivers to senders, and targets are distinct.
-/// Its tasks are those of `stages`, in the same order. The channels that a task receives from ascend. Each consumer is one task's:
+/// Its tasks have the stages of those of `stages`, in the same order. The channels that a task receives from ascend. Each consumer is one task's:
 /// the tasks' consumers, one after the other, are all consumers in their order. The layout has as many partitions as are counted,
 /// and so has each of its stages.
 pub fn shape_law()

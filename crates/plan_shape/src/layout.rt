@@ -22,7 +22,7 @@ pub(crate) struct Stage {
 }
 
 impl Model for Stage {
-    ghost use Rattle.plan_shape.specs.Layout.{Stage, Laid};
+    ghost use Rattle.plan_shape.specs.Layout.{Stage};
 
     ghost Value = { Stage };
 
@@ -57,6 +57,7 @@ pub(crate) struct Laid {
 }
 
 impl Model for Laid {
+    ghost use Rattle.plan_shape.specs.Layout.{Laid};
 
     ghost Value = { Laid };
 

@@ -1,5 +1,5 @@
 -- A plain plan with its exchanges.
-use Rattle.std.proofs.Common.{ℕ, ◌≡◌, refl, ◌∙◌, eqb, true, false, List, [], ◌∷◌}
+use Rattle.std.proofs.Common.{ℕ, ◌≡◌, refl, ◌∙◌, eqb, Bool, true, false, List, [], ◌∷◌}
 use Rattle.plan_props.specs.Satisfies.{satisfies_distribution}
 use Rattle.plan_props.specs.declared.properties.Distribution.TheVariants as need
 use Rattle.physical_plan.specs.declared.plan.Plan.{Plan}
@@ -7,14 +7,15 @@ use Rattle.physical_plan.specs.declared.plan.Plan.TheOpen.{Plan-F}
 use Rattle.physical_plan.specs.Properties.{props, partitions, left_keys, right_keys}
 use Rattle.physical_plan.specs.Everywhere.{Test, everywhere}
 use Rattle.physical_plan.specs.Needs.{group_need, spread_needs}
-use Rattle.planned_laws.specs.Finished.{have_parts, grouped_parts, busy_inputs, on_scans}
+use Rattle.planned_laws.specs.Finished.{have_parts, grouped_parts, inputs_serve, on_scans}
 use Rattle.planned_laws.specs.Plain.{plain, plain_child, IsPlain}
 use Rattle.physical_plan.proofs.Everywhere.{and_parts}
-use Rattle.planned_laws.proofs.Weaker.{weaker}
+use Rattle.planned_laws.proofs.Weaker.{weaker, weaker_below}
 use Rattle.enforce_dist.specs.Distribute.{distributed, enforce_distribution}
 use Rattle.planned_laws.specs.Spread.{lean_exchanges, IsSpread}
 use Rattle.planned_laws.proofs.Spreading.{Spreads, spreads, spreading_keeps, gathered_erased, gathered_single, gathered_holds}
-use Rattle.planned_laws.proofs.Spreads.{needs_spread, lean_spread, scans_spread, busy_spread, gathered_busy, child_busy}
+use Rattle.planned_laws.proofs.Spreads.{needs_spread, lean_spread, scans_spread}
+use Rattle.planned_laws.proofs.Serving.{no_exchange, no_exchanges, plain_inputs, plain_root, serves_distributed, gathered_serves, serves_spread}
 use Rattle.planned_laws.proofs.SpreadRobins.{found_spread}
 
 -- ---- partitions follow from needs
@@ -36,8 +37,8 @@ counted n _ e = refl
 -- ---- together
 
 -- a test that holds of the plain plan turns into one of the plan with its exchanges
-pub held : (n : ℕ) (T U : Test) → Spreads n T plain_child U → (p : Plan) → everywhere T p ≡ true → plain_child p ≡ true → everywhere U (enforce_distribution p n) ≡ true
-held n T U h p all top = gathered_holds n T plain_child U h p false top (spreads n T plain_child U h p all false)
+pub held : (n : ℕ) (T : Test) (C : Plan → Bool) (U : Test) → Spreads n T C U → (p : Plan) → everywhere T p ≡ true → C p ≡ true → everywhere U (enforce_distribution p n) ≡ true
+held n T C U h p all top = gathered_holds n T C U h p false top (spreads n T C U h p all false)
 
 pub is_spread : (p : Plan) (n : ℕ) → IsPlain p → IsSpread p n (enforce_distribution p n)
 is_spread p n h = record {
@@ -45,12 +46,15 @@ is_spread p n h = record {
   spread_met = needs;
   root_single = gathered_single (distributed n p false);
   parts = weaker (spread_needs n) (have_parts n) (counted n) (enforce_distribution p n) needs;
-  lean_nodes = held n plain (lean_exchanges n) (lean_spread n) p h.everywhere_plain h.top_plain;
-  busy_nodes = held n plain (busy_inputs n) (busy_spread n) p h.everywhere_plain h.top_plain;
-  root_busy = gathered_busy need.Single (distributed n p false) (child_busy n need.Single false p h.top_plain);
-  robins = held n plain on_scans (scans_spread n) p h.everywhere_plain h.top_plain;
+  lean_nodes = held n plain plain_child (lean_exchanges n) (lean_spread n) p h.everywhere_plain h.top_plain;
+  exchanges_serve = held n no_exchanges no_exchange (inputs_serve n) (serves_spread n) p (weaker_below plain no_exchanges plain_inputs p h.everywhere_plain) free;
+  root_served = gathered_serves n need.Single (distributed n p false) (serves_distributed n p free false need.Single);
+  robins = held n plain plain_child on_scans (scans_spread n) p h.everywhere_plain h.top_plain;
   spread = found_spread n p h.everywhere_plain;
 }
   where
+    free : no_exchange p ≡ true
+    free = plain_root p h.everywhere_plain h.top_plain
+
     needs : everywhere (spread_needs n) (enforce_distribution p n) ≡ true
-    needs = held n plain (spread_needs n) (needs_spread n) p h.everywhere_plain h.top_plain
+    needs = held n plain plain_child (spread_needs n) (needs_spread n) p h.everywhere_plain h.top_plain

@@ -15,7 +15,7 @@ use Rattle.physical_plan.specs.declared.plan.Plan.TheVariants.{Sort, Merge, Limi
 use Rattle.physical_plan.specs.Properties.{props, partitions, parts}
 use Rattle.physical_plan.specs.Everywhere.{everywhere, all_true, kids}
 use Rattle.physical_plan.specs.Needs.{spread_needs, order_needs}
-use Rattle.planned_laws.specs.Finished.{limited_order, no_limit, LimitAtRoot, have_parts, lean, busy_inputs, on_scans, IsFinished}
+use Rattle.planned_laws.specs.Finished.{limited_order, no_limit, LimitAtRoot, have_parts, lean, inputs_serve, on_scans, IsFinished}
 use Rattle.planned_laws.specs.Plain.{plain_node, plain_child, plain, IsPlain, lone, IsBody}
 use Rattle.physical_build.specs.Build.{sorted_by, limited}
 use Rattle.physical_plan.proofs.Nodes.{declared-Sort, declared-Merge, declared-Limit}
@@ -31,7 +31,7 @@ use Rattle.enforce_sort.proofs.Nodes.{arranged-Sort, arranged-Merge, arranged-Li
 use Rattle.planned_laws.proofs.Likes.{like, parts_like}
 use Rattle.planned_laws.proofs.Sorting.{stays, Arranges, arranges, order_itself, sorting_keeps, sorted_by as in_order}
 use Rattle.planned_laws.proofs.Arranged.{needs_arrange, orders_arrange, lean_arrange, scans_arrange}
-use Rattle.planned_laws.proofs.Busy.{works, busy_arrange}
+use Rattle.planned_laws.proofs.Serving.{serves_arranged, serves_arrange}
 use Rattle.planned_laws.proofs.SortedRobins.{found_stays}
 use Rattle.planned_laws.proofs.Limits.{no_top}
 
@@ -105,7 +105,7 @@ finish n p = enforce_sorting (enforce_distribution p n)
 
 -- no limit comes in
 none_inside : (n : ℕ) (p : Plan) → everywhere lone p ≡ true → plain_child p ≡ true → everywhere no_limit (finish n p) ≡ true
-none_inside n p all top = arranges no_limit no_limit unlimited_arrange (enforce_distribution p n) (held n lone no_limit (unlimited_spread n) p all top)
+none_inside n p all top = arranges no_limit no_limit unlimited_arrange (enforce_distribution p n) (held n lone plain_child no_limit (unlimited_spread n) p all top)
 
 unlimited : (n : ℕ) (order : List SortKey) (p : Plan) → everywhere lone p ≡ true → plain_child p ≡ true → everywhere (limited_order order) (finish n p) ≡ true
 unlimited n order p all top = weaker no_limit (limited_order order) (ordered_unlimited order) (finish n p) (none_inside n p all top)
@@ -182,8 +182,8 @@ together n order p f s = record {
   limit_top = f.limit_top;
   parts = weaker (spread_needs n) (have_parts n) (counted n) (finish n p) needs;
   lean_nodes = arranges (lean_exchanges n) (lean n) (lean_arrange n) (enforce_distribution p n) s.lean_nodes;
-  busy_nodes = arranges (busy_inputs n) (busy_inputs n) (busy_arrange n) (enforce_distribution p n) s.busy_nodes;
-  root_busy = works n (enforce_distribution p n) s.busy_nodes need.Single s.root_busy;
+  exchanges_serve = arranges (inputs_serve n) (inputs_serve n) (serves_arrange n) (enforce_distribution p n) s.exchanges_serve;
+  root_served = serves_arranged (enforce_distribution p n) need.Single ∙ s.root_served;
   robins = arranges on_scans on_scans scans_arrange (enforce_distribution p n) s.robins;
   spread = found_stays (enforce_distribution p n) s.robins ∙ s.spread;
 }

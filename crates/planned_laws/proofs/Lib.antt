@@ -9,7 +9,7 @@ pub mod Exchanges
 pub mod Likes
 pub mod Sorting
 pub mod Arranged
-pub mod Busy
+pub mod Serving
 pub mod SortedRobins
 pub mod Limits
 pub mod Finished

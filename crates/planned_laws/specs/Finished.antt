@@ -9,8 +9,10 @@ use Rattle.plan_props.specs.Satisfies.{satisfies_distribution, satisfies_order}
 use Rattle.physical_plan.specs.declared.plan.Plan.{Plan, out-Plan}
 use Rattle.physical_plan.specs.declared.plan.Plan.TheVariants as plan
 use Rattle.physical_plan.specs.declared.plan.Plan.TheOpen.{Plan-F}
-use Rattle.physical_plan.specs.declared.plan.Plan.TheFolds.{fold-Plan}
+use Rattle.physical_plan.specs.declared.plan.Plan.TheFolds.{fold-Plan, para-Plan}
 use Rattle.physical_plan.specs.Properties.{props, partitions, left_keys, right_keys}
+use Rattle.physical_plan.specs.Everywhere.{Test, everywhere, kids, erased}
+use Rattle.physical_plan.specs.Needs.{group_need, spread_needs, order_needs}
 
 -- ---- the order below a limit
 
@@ -55,22 +57,38 @@ lean n (Plan-F.Sort input keys) = not (satisfies_order (props input) keys)
 lean n (Plan-F.Repartition input to) = goes_to n to
 lean n _ = true
 
--- a hash exchange in place of what would do for the need
-abbrev pub idle_hash : Distribution → Plan-F Plan → Bool
-idle_hash d (Plan-F.Repartition input (parting.Hash cs m)) = satisfies_distribution (props input) d
-idle_hash d _ = false
+-- a need for a hash
+abbrev pub asks_hash : Distribution → Bool
+asks_hash (need.Hash keys n) = true
+asks_hash (need.JoinHash keys n) = true
+asks_hash _ = false
 
-abbrev pub busy : Distribution → Plan → Bool
-busy d p = not (idle_hash d (out-Plan p))
+-- a hash exchange serves a need for a hash that its input doesn't meet
+abbrev pub exchange_serves : Partitioning → Plan → Distribution → Bool
+exchange_serves (parting.Hash cs m) input d = asks_hash d && not (satisfies_distribution (props input) d)
+exchange_serves to input d = true
 
-abbrev pub all_busy : List Plan → Bool
-all_busy [] = true
-all_busy (p ∷ ps) = busy need.Unspecified p && all_busy ps
+-- read through Sorts
+abbrev pub serves_node : Plan-F (Plan × (Distribution → Bool)) → Distribution → Bool
+serves_node (Plan-F.Sort input keys) d = input.1 d
+serves_node (Plan-F.Repartition input to) d = exchange_serves to input.0 d
+serves_node _ d = true
 
-abbrev pub busy_inputs : ℕ → Test
-busy_inputs n (Plan-F.FinalGroup input keys calls) = busy (group_need keys n) input
-busy_inputs n (Plan-F.HashJoin kind left right keys rest) = busy (need.JoinHash (left_keys keys) n) left && busy (need.JoinHash (right_keys keys) n) right
-busy_inputs n z = all_busy (kids z)
+-- a plan below a need is no hash exchange that doesn't serve it, nor are Sorts over one
+unfoldable pub serves : Plan → Distribution → Bool
+serves = para-Plan (Distribution → Bool) serves_node
+
+abbrev pub all_serve : List Plan → Bool
+all_serve [] = true
+all_serve (p ∷ ps) = serves p need.Unspecified && all_serve ps
+
+-- each hash exchange serves the nearest node above it that isn't a Sort
+abbrev pub inputs_serve : ℕ → Test
+inputs_serve n (Plan-F.FinalGroup input keys calls) = serves input (group_need keys n)
+inputs_serve n (Plan-F.HashJoin kind left right keys rest) =
+    serves left (need.JoinHash (left_keys keys) n) && serves right (need.JoinHash (right_keys keys) n)
+inputs_serve n (Plan-F.Sort input keys) = true
+inputs_serve n z = all_serve (kids z)
 
 -- ---- round-robin
 
@@ -147,7 +165,7 @@ pub record IsFinished (plain : Plan) (order : List SortKey) (n : ℕ) (p : Plan)
   pub limit_top : LimitAtRoot (out-Plan plain) p
   pub parts : everywhere (have_parts n) p ≡ true
   pub lean_nodes : everywhere (lean n) p ≡ true
-  pub busy_nodes : everywhere (busy_inputs n) p ≡ true
-  pub root_busy : busy need.Single p ≡ true
+  pub exchanges_serve : everywhere (inputs_serve n) p ≡ true
+  pub root_served : serves p need.Single ≡ true
   pub robins : everywhere on_scans p ≡ true
   pub spread : found p false ≡ wanted n plain false

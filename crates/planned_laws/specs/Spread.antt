@@ -6,7 +6,7 @@ use Rattle.physical_plan.specs.declared.plan.Plan.TheOpen.{Plan-F}
 use Rattle.physical_plan.specs.Properties.{partitions}
 use Rattle.physical_plan.specs.Everywhere.{Test, everywhere, erased}
 use Rattle.physical_plan.specs.Needs.{spread_needs}
-use Rattle.planned_laws.specs.Finished.{have_parts, lean, busy, busy_inputs, on_scans, found, wanted}
+use Rattle.planned_laws.specs.Finished.{have_parts, lean, serves, inputs_serve, on_scans, found, wanted}
 
 -- no exchange that was there already
 abbrev pub lean_exchanges : ℕ → Test
@@ -19,7 +19,7 @@ pub record IsSpread (plain : Plan) (n : ℕ) (p : Plan) : Type 0 where
   pub root_single : partitions p ≡ 1
   pub parts : everywhere (have_parts n) p ≡ true
   pub lean_nodes : everywhere (lean_exchanges n) p ≡ true
-  pub busy_nodes : everywhere (busy_inputs n) p ≡ true
-  pub root_busy : busy need.Single p ≡ true
+  pub exchanges_serve : everywhere (inputs_serve n) p ≡ true
+  pub root_served : serves p need.Single ≡ true
   pub robins : everywhere on_scans p ≡ true
   pub spread : found p false ≡ wanted n plain false

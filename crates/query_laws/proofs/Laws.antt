@@ -11,7 +11,7 @@ use Rattle.dfx_prepare.specs.Preparing.{schema_of}
 use Rattle.dfx_prepare.specs.declared.prepared.Prepared.{Prepared}
 use Rattle.physical_plan.specs.declared.plan.Plan.{Plan}
 use Rattle.plan_shape.specs.Layout.{shape}
-use Rattle.plan_shape.proofs.Shapes.{is_shape}
+use Rattle.plan_shape.proofs.Lawful.{is_shape}
 use Rattle.planned_laws.specs.Wholly.{IsWhollyPlanned}
 use Rattle.planned_laws.proofs.Facts.{all_needs_ranged}
 use Rattle.planned_laws.proofs.Wholly.{wholly_planned}

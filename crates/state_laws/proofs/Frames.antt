@@ -8,7 +8,7 @@ use Rattle.history_laws.specs.Reserved.{IsHeld}
 use Rattle.history_laws.proofs.Laws.{recorded, reserved}
 use Rattle.physical_plan.specs.declared.plan.Plan.{Plan}
 use Rattle.plan_shape.specs.Layout.{shape}
-use Rattle.plan_shape.proofs.Shapes.{is_shape}
+use Rattle.plan_shape.proofs.Lawful.{is_shape}
 use Rattle.plan_shape.proofs.Owners.{has_owners}
 use Rattle.tree_laws.specs.Runs.{State, IsReached}
 

@@ -9,7 +9,7 @@ use Rattle.physical_plan.specs.declared.plan.Plan.TheVariants.{rolls-Limit}
 use Rattle.plan_shape.specs.Layout.{shape}
 use Rattle.planned_laws.specs.Finished.{IsFinished}
 use Rattle.physical_plan.specs.Everywhere.{everywhere}
-use Rattle.plan_shape.proofs.Shapes.{is_shape}
+use Rattle.plan_shape.proofs.Lawful.{is_shape}
 use Rattle.physical_build.specs.Build.{build}
 use Rattle.node_laws.specs.Tests.{needs_in_range}
 use Rattle.logical_plan.specs.declared.query.Query.{Query}

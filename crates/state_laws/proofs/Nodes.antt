@@ -10,7 +10,7 @@ use Rattle.physical_plan.specs.declared.plan.Plan.TheViews.{roll-Plan}
 use Rattle.plan_shape.specs.Layout.{shape}
 use Rattle.physical_plan.specs.Numbers.{numbers, numbers_from}
 use Rattle.physical_plan.specs.Properties.{declared_of}
-use Rattle.plan_shape.proofs.Shapes.{is_shape}
+use Rattle.plan_shape.proofs.Lawful.{is_shape}
 use Rattle.node_laws.specs.Nodes.{Stands}
 use Rattle.node_laws.specs.Rows.{Begins, Begun, IsStretch, Stretches}
 use Rattle.node_laws.proofs.Wholes.{plan_stands, begun_stands}

@@ -1,6 +1,6 @@
 use Rattle.std.proofs.Common.{ap}
 use Rattle.plan_shape.specs.Counts.{Counted}
-use Rattle.plan_shape.proofs.Shapes.{is_shape}
+use Rattle.plan_shape.proofs.Lawful.{is_shape}
 use Rattle.plan_shape.proofs.Countings.{shape_stages, every_counted}
 use Rattle.plan_shape.proofs.Owners.{has_owners, numbered}
 use Rattle.plan_shape.proofs.Ascending.{ascending}
