@@ -5,8 +5,8 @@ use crate::nodes::{
 };
 use dfx_value::{JoinKind, SortKey};
 use physical_plan::{Plan, copy_exprs, copy_rest, left_keys, partitions, props, right_keys};
-use plan_shape::{StageTask, stages};
 use plan_props::{Partitioning, Props};
+use plan_shape::{StageTask, stages};
 use scalar_exprs::Expr;
 use std::alloc::Global;
 use std::rt::HostRuntime;

@@ -15,7 +15,7 @@ use Rattle.physical_plan.specs.Properties.{props, partitions, left_keys, right_k
 use Rattle.enforce_dist.specs.Distribute.{Below, gathered, gathered_by, hashed, grouped_input, join_input, distributed}
 use Rattle.physical_plan.specs.Everywhere.{all_true, kids}
 use Rattle.physical_plan.specs.Needs.{group_need, spread_needs}
-use Rattle.planned_laws.specs.Finished.{idle_hash, busy, all_busy, busy_inputs, on_scan, on_scans}
+use Rattle.planned_laws.specs.Finished.{on_scan, on_scans}
 use Rattle.enforce_dist.proofs.Nodes.{distributed-Scan, distributed-Filter, distributed-Project, distributed-PartialGroup, distributed-FinalGroup, distributed-HashJoin, distributed-Sort, distributed-UnionAll, distributed-Limit}
 use Rattle.physical_plan.proofs.Everywhere.{both_true, and_parts}
 use Rattle.planned_laws.proofs.Spreading.{passes, Spreads, group_met, join_met, single_met, gathered_single}
