@@ -9,7 +9,7 @@ pub mod source;
 
 pub use files::{Files, FilesRefused};
 pub use gate::{KernelGate, NoGate};
-pub use memory::files::MemFiles;
+pub use memory::files::{MemFiles, are_distinct};
 pub use memory::sink::MemSink;
 pub use memory::source::MemSource;
 pub use sink::{Sink, write_all};

@@ -48,9 +48,12 @@ pub trait Source: Send {
 fn read_more<S: Source>(source: &mut S, buffer: &mut [u8], at: usize) -> Result<usize, Failed>
     requires { at ≤ length buffer.old }
     ensures within { IfOk result (λ n. at + n ≤ length buffer.old) }
-    ensures front { (v : List ℕ) → S.told source.old ≡ Some v → take at buffer.old ≡ take at v → IfOk result (λ n. take (at + n) buffer.new ≡ take (at + n) v) }
-    ensures some { (v : List ℕ) → S.told source.old ≡ Some v → at < length buffer.old → at < length v → IfOk result (λ n. 0 < n) }
-    ensures same { (S.told source.new ≡ S.told source.old) × (S.size source.new ≡ S.size source.old) }
+    ensures front { (v : List ℕ) → S.told source.old ≡ Some v → take at buffer.old ≡ take at v
+        → IfOk result (λ n. take (at + n) buffer.new ≡ take (at + n) v) }
+    ensures some { (v : List ℕ) → S.told source.old ≡ Some v → at < length buffer.old
+        → at < length v → IfOk result (λ n. 0 < n) }
+    ensures same { (S.told source.new ≡ S.told source.old)
+        × (S.size source.new ≡ S.size source.old) }
     ensures cause { HasCause (S.faults source.old) (S.faults source.new) result }
 {
     source.read_at(at as u64, &mut buffer[at..])
@@ -59,8 +62,10 @@ fn read_more<S: Source>(source: &mut S, buffer: &mut [u8], at: usize) -> Result<
 // Fills the buffer from its start, up to the first read that gives none, and answers how far.
 fn fill<S: Source>(source: &mut S, buffer: &mut [u8]) -> Result<usize, Failed>
     ensures within { IfOk result (λ n. n ≤ length buffer.old) }
-    ensures front { (v : List ℕ) → S.told source.old ≡ Some v → length buffer.old ≡ length v → IfOk result (λ n. take n buffer.new ≡ v) }
-    ensures same { (S.told source.new ≡ S.told source.old) × (S.size source.new ≡ S.size source.old) }
+    ensures front { (v : List ℕ) → S.told source.old ≡ Some v → length buffer.old ≡ length v
+        → IfOk result (λ n. take n buffer.new ≡ v) }
+    ensures same { (S.told source.new ≡ S.told source.old)
+        × (S.size source.new ≡ S.size source.old) }
     ensures cause { HasCause (S.faults source.old) (S.faults source.new) result }
 {
     let mut at = 0;
@@ -78,9 +83,11 @@ fn fill<S: Source>(source: &mut S, buffer: &mut [u8]) -> Result<usize, Failed>
 pub fn read_all<S: Source>(alloc: Global, source: &mut S) -> Result<Vec<u8>, OutsideRefused>
     ensures bytes { (v : List ℕ) → S.told source.old ≡ Some v → IfOk result (λ all. all.items ≡ v) }
     ensures within { IfOk result (λ all. length all.items ≤ S.size source.old) }
-    ensures same { (S.told source.new ≡ S.told source.old) × (S.size source.new ≡ S.size source.old) }
+    ensures same { (S.told source.new ≡ S.told source.old)
+        × (S.size source.new ≡ S.size source.old) }
     ensures later { S.faults source.old ≤ S.faults source.new }
-    ensures failed { result ≡ Err refused.Failed → Rose (S.faults source.old) (S.faults source.new) }
+    ensures failed { result ≡ Err refused.Failed
+        → Rose (S.faults source.old) (S.faults source.new) }
 {
     let size = source.size() as usize;
     let Ok(mut all) = vec![in alloc; 0u8; size] else {

@@ -1,5 +1,5 @@
 use csv_source::CsvRefused;
-use dfx_outside::{MemFiles, MemSink};
+use dfx_outside::{MemFiles, MemSink, are_distinct};
 use dfx_value::{Bytes, EvalFault, Kind, Op, Seq, Text, Value};
 use logical_plan::{Logical, Query};
 use scalar_exprs::Expr;
@@ -98,7 +98,7 @@ fn body_of(alloc: Global, above: Above) -> Result<Logical, Fail> {
     }
 }
 
-fn files_of(alloc: Global, case: &Case) -> Result<MemFiles, Fail> {
+fn files_of(rt: &impl Abort, alloc: Global, case: &Case) -> Result<MemFiles, Fail> {
     let mut files = Vec::new(alloc);
     files.push((text(alloc, "1.csv")?, bytes(alloc, case.first)?))?;
     if let Some(second) = case.second {
@@ -108,6 +108,7 @@ fn files_of(alloc: Global, case: &Case) -> Result<MemFiles, Fail> {
     for read in case.failing_reads {
         failing.push((text(alloc, "2.csv")?, *read))?;
     }
+    assert!(rt; are_distinct(files.as_slice()));
     Ok(MemFiles::new(alloc, files, failing))
 }
 
@@ -183,7 +184,7 @@ fn compare(
 }
 
 fn check(rt: &impl Abort, alloc: Global, case: &Case) -> Result<(), Fail> {
-    let mut files = files_of(alloc, case)?;
+    let mut files = files_of(rt, alloc, case)?;
     let mut sink = sink_of(alloc, case)?;
     let refused = ran(alloc, case.above, &mut files, &mut sink)?;
     compare(rt, case, refused, &files, &sink);

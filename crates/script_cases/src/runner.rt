@@ -8,7 +8,7 @@ use crate::parser::steps_of;
 use crate::record::{Expected, File, Record, Says, Step};
 use crate::refused::Why;
 use crate::report::Report;
-use dfx_outside::{MemFiles, MemSink};
+use dfx_outside::{MemFiles, MemSink, are_distinct};
 use dfx_top::{Finished, command_here};
 use dfx_value::{Bytes, NoMemory, Text};
 use std::alloc::{AllocError, Global};
@@ -77,6 +77,9 @@ fn failing_reads(
 /// Runs the command of a record.
 fn run(alloc: Global, commons: &[&File], record: &Record) -> Result<Left, Why> {
     let files = files_for(alloc, commons, record)?;
+    if !are_distinct(files.as_slice()) {
+        return Err(Why::TwoFiles);
+    }
     let failing = failing_reads(alloc, files.as_slice(), record)?;
     let files = MemFiles::new(alloc, files, failing);
     let writes = Vec::from_slice(alloc, record.failing.writes.as_slice())?;
