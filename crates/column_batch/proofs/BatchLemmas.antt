@@ -10,10 +10,10 @@ use Rattle.dfx_value.specs.declared.kind.Kind.{Kind}
 use Rattle.dfx_value.specs.declared.value.Value.{Value}
 use Rattle.dfx_value.specs.declared.value.Value.TheVariants as value
 use Rattle.dfx_value.proofs.BatchLemmas.{both}
-use Rattle.column_batch.specs.Columns.{KindedValues, Kinded, chosen, chosen_of}
+use Rattle.value_columns.specs.Columns.{KindedValues, Kinded, chosen, chosen_of}
 use Rattle.column_batch.specs.Batches.{row_at, rows_from, kinds_of, cut, rows_at, kept}
 use Rattle.column_batch.specs.Parts.{Reaches, Whole, all_chosen, places_from}
-use Rattle.column_batch.proofs.ColumnLemmas.{all_of-at, kinded-chosen, length-chosen}
+use Rattle.value_columns.proofs.ColumnLemmas.{all_of-at, kinded-chosen, length-chosen}
 
 pub length-rows_from : (cs : List KindedValues) (from n : ℕ) → length (rows_from cs from n) ≡ n
 length-rows_from cs from zero = refl

@@ -7,7 +7,7 @@ use Rattle.dfx_value.specs.declared.kind.Kind.{Kind}
 use Rattle.dfx_value.specs.declared.value.Value.{Value}
 use Rattle.dfx_value.specs.declared.value.Value.TheVariants as value
 use Rattle.dfx_value.proofs.BatchLemmas.{both, left_of, right_of, length-are_of}
-use Rattle.column_batch.specs.Columns.{KindedValues, with_value}
+use Rattle.value_columns.specs.Columns.{KindedValues, with_value}
 use Rattle.column_batch.specs.Batches.{row_at, rows_from, kinds_of, cut}
 use Rattle.column_batch.specs.Parts.{all_with, empties, Fills}
 use Rattle.column_batch.proofs.BatchLemmas.{rows_from-is, rows_from-at, length-rows_from}

@@ -6,7 +6,7 @@ use Rattle.dfx_value.specs.declared.kind.Kind.{Kind}
 use Rattle.dfx_value.specs.declared.kind.Kind.TheVariants as kind
 use Rattle.dfx_value.specs.declared.value.Value.{Value}
 use Rattle.dfx_value.specs.declared.value.Value.TheVariants as value
-use Rattle.column_batch.specs.Columns.{KindedValues}
+use Rattle.value_columns.specs.Columns.{KindedValues}
 
 -- the values that stand at a place
 abbrev pub row_at : List KindedValues → ℕ → List Value

@@ -4,7 +4,7 @@ use Rattle.dfx_value.specs.Rows.{row_size}
 use Rattle.dfx_value.specs.declared.kind.Kind.{Kind}
 use Rattle.dfx_value.specs.declared.kind.Kind.TheVariants as kind
 use Rattle.dfx_value.specs.declared.value.Value.{Value}
-use Rattle.column_batch.specs.Columns.{KindedValues, Kinded, chosen, with_value, with_part}
+use Rattle.value_columns.specs.Columns.{KindedValues, Kinded, chosen, with_value, with_part}
 
 -- a column with a value at each place before the last
 pub record Reaches (last : ℕ) (c : KindedValues) : Type 0 where
@@ -41,9 +41,13 @@ all_with_parts (c ∷ cs) (d ∷ ds) from to = with_part c d from to ∷ all_wit
 abbrev pub all_chosen : List KindedValues → ℕ → List ℕ → List KindedValues
 all_chosen cs from places = map (λ c. chosen c from places) cs
 
--- these columns; one that isn't there has no value
+-- what stands for a column that isn't there
+abbrev pub no_column : KindedValues
+no_column = record { kind = kind.Bool; values = [] }
+
+-- these columns
 abbrev pub columns_at : List KindedValues → List ℕ → List KindedValues
-columns_at cs columns = map (λ k. slice_index_or cs k (record { kind = kind.Bool; values = [] })) columns
+columns_at cs columns = map (λ k. slice_index_or cs k no_column) columns
 
 -- the places of the true bits, counted from a start
 abbrev pub places_from : ℕ → List Bool → List ℕ

@@ -1,16 +1,16 @@
 //! Batches that are made row by row.
 
-ghost use Rattle.std.specs.Prelude.{◌≡◌, ◌+◌, ◌^◌, ◌<◌, ◌≤◌, [], ◌∷◌, ◌++◌, All, length, true, IfOk, IfErr, OnOk, OnErr, ℕ, take};
+ghost use Rattle.std.specs.Prelude.{◌≡◌, ◌+◌, ◌-◌, ◌^◌, ◌<◌, ◌≤◌, [], ◌∷◌, ◌++◌, All, length, true, IfOk, IfErr, OnOk, OnErr, ℕ, take};
 ghost use Rattle.dfx_value.specs.Kinds.{are_of, are_kinds};
 ghost use Rattle.column_batch.specs.Batches.{kinds_of};
-ghost use Rattle.column_batch.specs.Parts.{all_with, empties};
+ghost use Rattle.column_batch.specs.Parts.{all_with, all_with_parts, empties};
 
 use crate::batch::Batch;
-use crate::column::Column;
 use crate::shared::Shared;
 use dfx_value::{Kind, NoMemory, Row, Value};
 use std::alloc::Global;
 use std::marker::Model;
+use value_columns::Column;
 
 /// A batch that is being made, row by row. Once there was no memory for a row it takes no more.
 #[derive(Drop)]
@@ -38,12 +38,39 @@ fn push_all(columns: &mut Vec<Column>, cells: &[Value]) -> Result<(), NoMemory>
     requires fits { are_of (kinds_of columns.old.items) cells.now ≡ true }
     requires room { All (λ c. length c.values + 1 < 2 ^ 32) columns.old.items }
     ensures ok { OnOk result (columns.new.items ≡ all_with columns.old.items cells.now) }
-    ensures err { OnErr result ((k : ℕ) × (columns.new.items ≡ all_with columns.old.items (take k cells.now))) }
+    ensures err { OnErr result ((k : ℕ)
+        × (columns.new.items ≡ all_with columns.old.items (take k cells.now))) }
 {
     let mut at = 0;
     for cell in cells {
         let column = &mut columns[at];
         column.push_copy(cell)?;
+        at += 1;
+    }
+    Ok(())
+}
+
+/// Puts a part of another column to each column, as far as there is memory.
+#[tactic(auto, using(crate::proofs::ExtendLemmas::with_steps))]
+fn extend_all(
+    columns: &mut Vec<Column>,
+    others: &[Shared],
+    from: u32,
+    to: u32,
+) -> Result<(), NoMemory>
+    requires kinds { kinds_of others.now ≡ kinds_of columns.old.items }
+    requires order { from ≤ to }
+    requires within { All (λ c. to ≤ length c.values) others.now }
+    requires room { All (λ c. length c.values + (to - from) < 2 ^ 32) columns.old.items }
+    ensures ok { OnOk result (columns.new.items
+        ≡ all_with_parts columns.old.items others.now from to) }
+    ensures err { OnErr result ((k : ℕ) × (columns.new.items
+        ≡ all_with_parts columns.old.items (take k others.now) from to)) }
+{
+    let mut at = 0;
+    for other in others {
+        let column = &mut columns[at];
+        column.extend(other.column(), from, to)?;
         at += 1;
     }
     Ok(())
@@ -69,6 +96,18 @@ fn empty_columns(alloc: Global, kinds: &[Kind]) -> Result<Vec<Column>, NoMemory>
     let mut all = Vec::with_capacity(alloc, kinds.len())?;
     for kind in kinds {
         all.push(Column::new(alloc, *kind))?;
+    }
+    Ok(all)
+}
+
+/// A column without a value of each column's kind.
+#[tactic(auto, using(crate::proofs::ExtendLemmas::alike_more))]
+fn empty_alike(alloc: Global, columns: &[Shared]) -> Result<Vec<Column>, NoMemory>
+    ensures { IfOk result (λ all. all.items ≡ empties (kinds_of columns.now)) }
+{
+    let mut all = Vec::with_capacity(alloc, columns.len())?;
+    for column in columns {
+        all.push(Column::new(alloc, column.column().kind()))?;
     }
     Ok(all)
 }
@@ -110,6 +149,45 @@ impl Builder {
             Err(_) => {
                 self.full = true;
                 Err(row)
+            }
+        }
+    }
+
+    /// A builder of a batch of another's kinds, with no row.
+    #[tactic(auto, using(crate::proofs::BuilderLemmas::empty_steps))]
+    pub fn alike(alloc: Global, batch: &Batch) -> Result<Builder, NoMemory>
+        ensures kinds { IfOk result (λ builder. builder.kinds ≡ batch.now.kinds) }
+        ensures rows { IfOk result (λ builder. builder.rows ≡ []) }
+    {
+        Ok(Builder {
+            columns: empty_alike(alloc, &batch.columns)?,
+            rows: 0,
+            full: false,
+        })
+    }
+
+    /// Puts the rows of a batch at the end. Where there is no memory for them, none is put.
+    #[tactic(auto, using(crate::proofs::ExtendLemmas::extend_steps))]
+    pub fn extend(&mut self, batch: &Batch) -> Result<(), NoMemory>
+        requires kinds { batch.now.kinds ≡ self.old.kinds }
+        requires room { length self.old.rows + length batch.now.rows < 2 ^ 32 }
+
+        ensures kinds { self.new.kinds ≡ self.old.kinds }
+        ensures ok { OnOk result (self.new.rows ≡ self.old.rows ++ batch.now.rows) }
+        ensures err { OnErr result (self.new.rows ≡ self.old.rows) }
+    {
+        if self.full {
+            return Err(NoMemory);
+        }
+        let to = batch.from + batch.rows;
+        match extend_all(&mut self.columns, &batch.columns, batch.from, to) {
+            Ok(()) => {
+                self.rows += batch.rows;
+                Ok(())
+            }
+            Err(refused) => {
+                self.full = true;
+                Err(refused)
             }
         }
     }

@@ -3,7 +3,7 @@ use Rattle.dfx_value.specs.Kinds.{is_of}
 use Rattle.std.proofs.lemmas.List.{take_all, length-map}
 use Rattle.dfx_value.specs.declared.value.Value.{Value}
 use Rattle.dfx_value.proofs.BatchLemmas.{length-are_of}
-use Rattle.column_batch.specs.Columns.{KindedValues, with_value}
+use Rattle.value_columns.specs.Columns.{KindedValues, with_value}
 use Rattle.column_batch.specs.Batches.{kinds_of}
 use Rattle.column_batch.specs.Parts.{all_with}
 use Rattle.column_batch.proofs.BuilderLemmas.{all_with-none, all_with-next, all_with-more, length-all_with, fits-at}

@@ -1,7 +1,7 @@
 use Rattle.std.proofs.Common.{rules, ◌≡◌, ◌+◌, ◌-◌, ◌<◌, ◌≤◌, ℕ, List, All, length, get_or, ap, sym, ◌∙◌, subst, arith}
 use Rattle.dfx_value.specs.KindedRows.{KindedRows}
 use Rattle.dfx_value.specs.declared.value.Value.{Value}
-use Rattle.column_batch.specs.Columns.{KindedValues}
+use Rattle.value_columns.specs.Columns.{KindedValues}
 use Rattle.column_batch.specs.Parts.{Whole, all_chosen}
 use Rattle.column_batch.specs.Batches.{rows_from, kinds_of, rows_at}
 use Rattle.column_batch.proofs.BatchLemmas.{length-rows_from, whole-chosen, rows-chosen, kinds-chosen, reaches-below}

@@ -2,7 +2,7 @@ use Rattle.std.proofs.Common.{rules, ◌≡◌, ◌+◌, ◌-◌, ◌<◌, ◌�
 use Rattle.std.specs.Prelude.{slice_range}
 use Rattle.dfx_value.specs.KindedRows.{KindedRows}
 use Rattle.dfx_value.specs.declared.value.Value.{Value}
-use Rattle.column_batch.specs.Columns.{KindedValues}
+use Rattle.value_columns.specs.Columns.{KindedValues}
 use Rattle.column_batch.specs.Parts.{Whole}
 use Rattle.column_batch.specs.Batches.{rows_from}
 use Rattle.column_batch.proofs.BatchLemmas.{length-rows_from, whole-part, rows-part}

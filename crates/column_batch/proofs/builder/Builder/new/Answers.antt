@@ -1,5 +1,5 @@
 use Rattle.std.proofs.Common.{rules, List, sym, subst, false}
-use Rattle.column_batch.specs.Columns.{KindedValues}
+use Rattle.value_columns.specs.Columns.{KindedValues}
 use Rattle.column_batch.specs.Parts.{Fills}
 use Rattle.column_batch.proofs.BuilderLemmas.{fills-empties}
 use Rattle.column_batch.proofs.builder.Builder.new.Goals as goal

@@ -1,7 +1,7 @@
 use Rattle.std.proofs.Common.{rules, ◌≡◌, ◌+◌, ◌<◌, List, length, ap, sym, ◌∙◌, subst, arith, true}
 use Rattle.dfx_value.specs.Kinds.{are_of}
 use Rattle.dfx_value.specs.KindedRows.{KindedRows}
-use Rattle.column_batch.specs.Columns.{KindedValues}
+use Rattle.value_columns.specs.Columns.{KindedValues}
 use Rattle.column_batch.specs.Batches.{kinds_of}
 use Rattle.column_batch.specs.Parts.{Fills}
 use Rattle.column_batch.proofs.BatchLemmas.{length-rows_from}
