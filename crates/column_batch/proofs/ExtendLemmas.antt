@@ -62,7 +62,7 @@ row_at-before [] ds a b n i h l = refl
 row_at-before (c ∷ cs) [] a b n i h l = refl
 row_at-before (c ∷ cs) (d ∷ ds) a b n i h l =
     let here : get_or (with_part c d a b).values i value.Null ≡ get_or c.values i value.Null =
-        get_or_append_left c.values (slice_range d.values a b) value.Null i (omega (arith, All-head (λ x. n ≤ length x.values) c cs h)) in
+    get_or_append_left c.values (slice_range d.values a b) value.Null i (omega (arith, All-head (λ x. n ≤ length x.values) c cs h)) in
     let rest : row_at (all_with_parts cs ds a b) i ≡ row_at cs i = row_at-before cs ds a b n i (All-tail (λ x. n ≤ length x.values) c cs h) l in
     cc
 
@@ -85,8 +85,8 @@ row_at-behind (c ∷ cs) [] a b n i h l m = absurd (omega arith)
 row_at-behind (c ∷ cs) (d ∷ ds) a b n i h l m =
     let len : length c.values ≡ n = All-head (λ x. length x.values ≡ n) c cs h in
     let here : get_or (with_part c d a b).values (n + i) value.Null ≡ get_or d.values (a + i) value.Null =
-        ap (λ (k : ℕ). get_or (c.values ++ slice_range d.values a b) (k + i) value.Null) (sym len)
-        ∙ get_or-append-add c.values (slice_range d.values a b) i value.Null ∙ part-at d.values a b i m in
+    ap (λ (k : ℕ). get_or (c.values ++ slice_range d.values a b) (k + i) value.Null) (sym len)
+    ∙ get_or-append-add c.values (slice_range d.values a b) i value.Null ∙ part-at d.values a b i m in
     let rest : row_at (all_with_parts cs ds a b) (n + i) ≡ row_at ds (a + i) = row_at-behind cs ds a b n i (All-tail (λ x. length x.values ≡ n) c cs h) (omega arith) m in
     cc
 
@@ -100,10 +100,10 @@ pub rows-extended : (cs ds : List KindedValues) (from m n : ℕ) → All (λ c. 
     → rows_from (all_with_parts cs ds from (from + m)) 0 (n + m) ≡ rows_from cs 0 n ++ rows_from ds from m
 rows-extended cs ds from m n h kinds =
     let behind : rows_from (all_with_parts cs ds from (from + m)) n m ≡ rows_from ds from m =
-        ap (rows_from (all_with_parts cs ds from (from + m)) n) (sym (length-rows_from ds from m))
-        ∙ rows_from-is (all_with_parts cs ds from (from + m)) n (rows_from ds from m) (λ i l.
-        let below : i < m = omega (arith, length-rows_from ds from m) in
-        row_at-behind cs ds from (from + m) n i h (length-same cs ds kinds) (omega arith) ∙ sym (rows_from-at ds from m i [] below)) in
+    ap (rows_from (all_with_parts cs ds from (from + m)) n) (sym (length-rows_from ds from m))
+    ∙ rows_from-is (all_with_parts cs ds from (from + m)) n (rows_from ds from m) (λ i l.
+    let below : i < m = omega (arith, length-rows_from ds from m) in
+    row_at-behind cs ds from (from + m) n i h (length-same cs ds kinds) (omega arith) ∙ sym (rows_from-at ds from m i [] below)) in
     rows_from-split (all_with_parts cs ds from (from + m)) 0 n m
     ∙ ap (λ t. t ++ rows_from (all_with_parts cs ds from (from + m)) (0 + n) m) (rows-before cs ds from (from + m) n (λ k d l. omega (arith, h k d l)))
     ∙ ap (λ t. rows_from cs 0 n ++ t) (ap (λ (k : ℕ). rows_from (all_with_parts cs ds from (from + m)) k m) {x = 0 + n} {y = n} (omega arith) ∙ behind)
@@ -113,8 +113,12 @@ even-extended : (cs ds : List KindedValues) (a b n : ℕ) → All (λ c. length 
 even-extended [] ds a b n h l w k d m = absurd (omega (arith, length-all_with_parts [] ds a b))
 even-extended (c ∷ cs) [] a b n h l w k d m = absurd (omega arith)
 even-extended (c ∷ cs) (x ∷ ds) a b n h l w zero d m =
-    omega (arith, length-append c.values (slice_range x.values a b), length-take-le (b - a) (drop a x.values) (omega (arith, length-drop a x.values, All-head (λ y. b ≤ length y.values) x ds w)),
-      All-head (λ y. length y.values ≡ n) c cs h)
+    omega (
+      arith,
+      length-append c.values (slice_range x.values a b),
+      length-take-le (b - a) (drop a x.values) (omega (arith, length-drop a x.values, All-head (λ y. b ≤ length y.values) x ds w)),
+      All-head (λ y. length y.values ≡ n) c cs h,
+    )
 even-extended (c ∷ cs) (x ∷ ds) a b n h l w (suc k) d m =
     even-extended cs ds a b n (All-tail (λ y. length y.values ≡ n) c cs h) (omega arith) (All-tail (λ y. b ≤ length y.values) x ds w) k d (omega arith)
 

@@ -76,10 +76,10 @@ column_of-rows cs from (suc n) k d h l =
     let here : cell (row_at cs from) k ≡ get_or (get_or cs k d).values from value.Null = row_at-cell cs from k d h in
     let rest : column_of (rows_from cs (suc from) n) k ≡ slice_range (get_or cs k d).values (suc from) (suc from + n) = column_of-rows cs (suc from) n k d h (omega arith) in
     let first : slice_range (get_or cs k d).values from (from + suc n) ≡ get_or (get_or cs k d).values from value.Null ∷ slice_range (get_or cs k d).values (from + 1) (from + suc n) =
-        part-first (get_or cs k d).values from (from + suc n) value.Null (omega arith) l in
+    part-first (get_or cs k d).values from (from + suc n) value.Null (omega arith) l in
     let same : slice_range (get_or cs k d).values (from + 1) (from + suc n) ≡ slice_range (get_or cs k d).values (suc from) (suc from + n) =
-        ap (λ i. slice_range (get_or cs k d).values i (from + suc n)) {x = from + 1} {y = suc from} (omega arith)
-        ∙ ap (slice_range (get_or cs k d).values (suc from)) {x = from + suc n} {y = suc from + n} (omega arith) in
+    ap (λ i. slice_range (get_or cs k d).values i (from + suc n)) {x = from + 1} {y = suc from} (omega arith)
+    ∙ ap (slice_range (get_or cs k d).values (suc from)) {x = from + suc n} {y = suc from + n} (omega arith) in
     cc
 
 -- a part that is all
@@ -95,8 +95,11 @@ part_size-first : (cs : List KindedValues) (from to : ℕ) → from < to → All
     → part_size cs from to ≡ row_size (row_at cs from) + part_size cs (from + 1) to
 part_size-first [] from to l h = refl
 part_size-first (c ∷ cs) from to l h =
-    omega (arith, ap row_size (part-first c.values from to value.Null l (All-head (λ x. to ≤ length x.values) c cs h)),
-      part_size-first cs from to l (All-tail (λ x. to ≤ length x.values) c cs h))
+    omega (
+      arith,
+      ap row_size (part-first c.values from to value.Null l (All-head (λ x. to ≤ length x.values) c cs h)),
+      part_size-first cs from to l (All-tail (λ x. to ≤ length x.values) c cs h),
+    )
 
 pub part_size-rows : (cs : List KindedValues) (from n : ℕ) → All (λ c. from + n ≤ length c.values) cs → part_size cs from (from + n) ≡ rows_size (rows_from cs from n)
 part_size-rows cs from zero h = ap (part_size cs from) {x = from + 0} {y = from} (omega arith) ∙ part_size-none cs from
@@ -104,7 +107,7 @@ part_size-rows cs from (suc n) h =
     let all : All (λ c. suc from + n ≤ length c.values) cs = λ k d l. omega (arith, h k d l) in
     let rest : part_size cs (suc from) (suc from + n) ≡ rows_size (rows_from cs (suc from) n) = part_size-rows cs (suc from) n all in
     let same : part_size cs (from + 1) (from + suc n) ≡ part_size cs (suc from) (suc from + n) =
-        ap (λ i. part_size cs i (from + suc n)) {x = from + 1} {y = suc from} (omega arith) ∙ ap (part_size cs (suc from)) {x = from + suc n} {y = suc from + n} (omega arith) in
+    ap (λ i. part_size cs i (from + suc n)) {x = from + 1} {y = suc from} (omega arith) ∙ ap (part_size cs (suc from)) {x = from + suc n} {y = suc from + n} (omega arith) in
     part_size-first cs from (from + suc n) (omega arith) h ∙ ap (λ n. row_size (row_at cs from) + n) (same ∙ rest)
 
 pub long-at : (cs : List KindedValues) (from n k : ℕ) (d : KindedValues) → Whole cs from n → k < length cs → from + n ≤ length (get_or cs k d).values

@@ -173,7 +173,9 @@ impl Batch {
         ensures { map (or_null value.Int) (masked result.0.now result.1.now)
             ≡ column_of self.now.rows at }
     {
-        self.columns[at as usize].column().ints(self.from, self.from + self.rows)
+        self.columns[at as usize]
+            .column()
+            .ints(self.from, self.from + self.rows)
     }
 
     /// A column's truths where they stand, with a mask as that of `ints`.
@@ -183,7 +185,9 @@ impl Batch {
         ensures { map (or_null value.Bool) (masked result.0.now result.1.now)
             ≡ column_of self.now.rows at }
     {
-        self.columns[at as usize].column().truths(self.from, self.from + self.rows)
+        self.columns[at as usize]
+            .column()
+            .truths(self.from, self.from + self.rows)
     }
 
     /// Appends the printed text of a cell: nothing for NULL. After want of memory the text begins
@@ -193,7 +197,7 @@ impl Batch {
         requires column { column < length self.now.kinds }
         ensures ok { OnOk result (string_bytes text.new
             ≡ string_bytes text.old
-                ++ printed (rows.cell (slice_index_or self.now.rows at []) column)) }
+            ++ printed (rows.cell (slice_index_or self.now.rows at []) column)) }
         ensures err { OnErr result (StartsWith (string_bytes text.new) (string_bytes text.old)) }
     {
         push_printed(text, self.cell(at, column))?;

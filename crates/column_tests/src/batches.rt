@@ -56,9 +56,15 @@ fn parts_of_batches(rt: HostRuntime) -> Result<(), Fail> {
     assert!(rt; kept.rows() == 2);
     let whole = batch.concat(alloc, &kept)?;
     assert!(rt; whole.rows() == 5);
-    assert_eq!(rt; shown(alloc, whole.column(alloc, 0)?.column())?.as_str(), "-7;;9;9;9;");
+    assert_eq!(rt;
+        shown(alloc, whole.column(alloc, 0)?.column())?.as_str(),
+        "-7;;9;9;9;"
+    );
     let turned = whole.project(alloc, &[1, 0])?;
-    assert_eq!(rt; shown(alloc, turned.column(alloc, 0)?.column())?.as_str(), "héé;;x;x;x;");
+    assert_eq!(rt;
+        shown(alloc, turned.column(alloc, 0)?.column())?.as_str(),
+        "héé;;x;x;x;"
+    );
     Ok(())
 }
 

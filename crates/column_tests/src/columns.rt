@@ -87,7 +87,13 @@ fn other_kinds(rt: HostRuntime) -> Result<(), Fail> {
     assert!(rt; texts.len() == 3);
     assert_eq!(rt; shown(alloc, &texts)?.as_str(), "héé;x;;");
     assert_eq!(rt; texts.size(0, 3), 54);
-    let mut decimals = Column::new(alloc, Kind::Dec { precision: 3, scale: 1 });
+    let mut decimals = Column::new(
+        alloc,
+        Kind::Dec {
+            precision: 3,
+            scale: 1,
+        },
+    );
     decimals.push_decimal(dec(&rt, -25, 1))?;
     decimals.push_copy(&Value::Dec(dec(&rt, 999, 1)))?;
     assert_eq!(rt; shown(alloc, &decimals)?.as_str(), "-2.5;99.9;");
@@ -98,7 +104,10 @@ fn other_kinds(rt: HostRuntime) -> Result<(), Fail> {
     truths.push_value(Value::Null)?;
     assert!(rt; truths.len() == 3);
     assert_eq!(rt; shown(alloc, &truths)?.as_str(), "true;false;;");
-    assert_eq!(rt; value_text(alloc, &truths.value(alloc, 1)?)?.as_str(), "false");
+    assert_eq!(rt;
+        value_text(alloc, &truths.value(alloc, 1)?)?.as_str(),
+        "false"
+    );
     let (items, nulls) = truths.truths(0, 2);
     assert_eq!(rt; items, [true, false].as_slice());
     assert!(rt; !nulls.contains(&true));

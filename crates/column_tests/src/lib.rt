@@ -5,3 +5,5 @@
 mod batches;
 #[cfg(test)]
 mod columns;
+#[cfg(test)]
+mod lengths;

@@ -145,11 +145,11 @@ moved_part b c s e i j h l m n =
     let width : length b + (j - s) - (length b + (i - s)) ≡ j - i = omega arith in
     let split : i - s + (e - i) ≡ e - s = omega arith in
     let behind : drop (length b + (i - s)) (b ++ slice_range c s e) ≡ drop (i - s) (slice_range c s e) =
-        sym (drop-drop (i - s) (length b) (b ++ slice_range c s e)) ∙ ap (drop (i - s)) (drop-append_seam b (slice_range c s e)) in
+    sym (drop-drop (i - s) (length b) (b ++ slice_range c s e)) ∙ ap (drop (i - s)) (drop-append_seam b (slice_range c s e)) in
     let inside : drop (i - s) (slice_range c s e) ≡ take (e - i) (drop i c) =
-        ap (λ k. drop (i - s) (take k (drop s c))) (sym split)
-        ∙ drop-take (i - s) (e - i) (drop s c)
-        ∙ ap (take (e - i)) (drop-drop (i - s) s c ∙ ap (λ k. drop k c) {x = s + (i - s)} {y = i} (omega arith)) in
+    ap (λ k. drop (i - s) (take k (drop s c))) (sym split)
+    ∙ drop-take (i - s) (e - i) (drop s c)
+    ∙ ap (take (e - i)) (drop-drop (i - s) s c ∙ ap (λ k. drop k c) {x = s + (i - s)} {y = i} (omega arith)) in
     ap (λ k. take k (drop (length b + (i - s)) (b ++ slice_range c s e))) width
     ∙ ap (take (j - i)) (behind ∙ inside)
     ∙ take-take (j - i) (e - i) (drop i c) (omega arith)
@@ -160,7 +160,7 @@ pieces-moved b c s e from [] h k l = refl
 pieces-moved b c s e from (x ∷ es) h k l =
     let le : from ≤ x = k.0 in
     let here : slice_range (b ++ slice_range c s e) (length b + (from - s)) (length b + (x - s)) ≡ slice_range c from x =
-        moved_part b c s e from x h le (chained-end x es e k.1) l in
+    moved_part b c s e from x h le (chained-end x es e k.1) l in
     let rest : pieces (b ++ slice_range c s e) (length b + (x - s)) (moved s (length b) es) ≡ pieces c x es = pieces-moved b c s e x es (omega arith) k.1 l in
     cc
 
@@ -205,12 +205,12 @@ holds-extend b es c fs i j h k l m =
     let order : start 0 fs i ≤ start 0 fs j = start_order fs (length c) i j k.chained l m in
     let within : start 0 fs j ≤ length c = start_total fs (length c) j k.chained m in
     let whole : length b + (start 0 fs j - start 0 fs i) ≡ length (b ++ slice_range c (start 0 fs i) (start 0 fs j)) =
-        omega (arith, length-append b (slice_range c (start 0 fs i) (start 0 fs j)), length-take-le (start 0 fs j - start 0 fs i) (drop (start 0 fs i) c) (omega (arith, length-drop (start 0 fs i) c))) in
+    omega (arith, length-append b (slice_range c (start 0 fs i) (start 0 fs j)), length-take-le (start 0 fs j - start 0 fs i) (drop (start 0 fs i) c) (omega (arith, length-drop (start 0 fs i) c))) in
     let P : ℕ → Type 0 = λ n. Chained 0 (es ++ moved (start 0 fs i) (length b) (slice_range fs i j)) n in
     let Q : ℕ → Type 0 = λ n. Chained n (moved (start 0 fs i) (length b) (slice_range fs i j)) (length b + (start 0 fs j - start 0 fs i)) in
     let R : List (List ℕ) → Type 0 = λ x. All IsUtf8 x in
     let behind : Q (length b) = subst Q {x = length b + (start 0 fs i - start 0 fs i)} {y = length b} (omega arith)
-        (chained-moved (start 0 fs i) (start 0 fs i) (length b) (slice_range fs i j) (start 0 fs j) (omega arith) (chained-part fs (length c) i j k.chained l m)) in
+    (chained-moved (start 0 fs i) (start 0 fs i) (length b) (slice_range fs i j) (start 0 fs j) (omega arith) (chained-part fs (length c) i j k.chained l m)) in
     record {
       chained = subst P whole (chained-append 0 es (moved (start 0 fs i) (length b) (slice_range fs i j)) (length b) (length b + (start 0 fs j - start 0 fs i)) h.chained behind);
       texts = subst R (sym (pieces-extend b es c fs i j h k l m))

@@ -35,9 +35,9 @@ overflow_add-self c =
 pub invariant_of-self : goal.invariant_of-self
 invariant_of-self c =
     let kinds : kinds_of c.deref.result.now ≡ kinds_of c.self.inside.columns.items =
-        ap kinds_of c.deref.ensures.value ∙ ap (λ (x : KindedRows). x.kinds) c.batch.view_is ∙ c.requires.kinds ∙ ap (λ (x : KindedRows). x.kinds) (sym c.self.view_is) in
+    ap kinds_of c.deref.ensures.value ∙ ap (λ (x : KindedRows). x.kinds) c.batch.view_is ∙ c.requires.kinds ∙ ap (λ (x : KindedRows). x.kinds) (sym c.self.view_is) in
     let P : List KindedValues → Type 0 = λ x. All (λ (y : KindedValues). c.batch.inside.from + c.batch.inside.rows ≤ length y.values) x in
     let Q : List KindedValues → Type 0 = λ x. Fills x (c.self.inside.rows + c.batch.inside.rows) c.self.inside.full in
     subst Q (sym c.in-Ok.ensures.ok)
     (fills-extended c.self.inside.columns.items c.deref.result.now c.batch.inside.from c.batch.inside.rows c.self.inside.rows c.self.inside.full c.self.invariant c.if-self.false kinds
-      (subst P (sym c.deref.ensures.value) (long-whole c.batch.inside.columns.items c.batch.inside.from c.batch.inside.rows c.batch.invariant)))
+    (subst P (sym c.deref.ensures.value) (long-whole c.batch.inside.columns.items c.batch.inside.from c.batch.inside.rows c.batch.invariant)))

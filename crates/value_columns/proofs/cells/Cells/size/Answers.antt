@@ -12,19 +12,19 @@ pub returns-in-Truths : goal.returns-in-Truths
 returns-in-Truths c =
     let within : c.args.to ≤ length c.in-Truths.field-0 = omega (arith, c.requires.within, ap (λ (x : Cells). length (values_of x)) c.in-Truths.is, length-values value.Bool c.in-Truths.field-0) in
     let size : row_size (slice_range (values_of c.args.self.now) c.args.from c.args.to) ≡ 16 * (c.args.to - c.args.from) =
-        ap (λ (x : Cells). row_size (slice_range (values_of x) c.args.from c.args.to)) c.in-Truths.is ∙ size-truths c.in-Truths.field-0 c.args.from c.args.to c.requires.order within in
+    ap (λ (x : Cells). row_size (slice_range (values_of x) c.args.from c.args.to)) c.in-Truths.is ∙ size-truths c.in-Truths.field-0 c.args.from c.args.to c.requires.order within in
     omega (arith, size, c.requires.few, c.requires.within)
 
 pub returns-in-Ints : goal.returns-in-Ints
 returns-in-Ints c =
     let within : c.args.to ≤ length c.in-Ints.field-0 = omega (arith, c.requires.within, ap (λ (x : Cells). length (values_of x)) c.in-Ints.is, length-values value.Int c.in-Ints.field-0) in
     let size : row_size (slice_range (values_of c.args.self.now) c.args.from c.args.to) ≡ 16 * (c.args.to - c.args.from) =
-        ap (λ (x : Cells). row_size (slice_range (values_of x) c.args.from c.args.to)) c.in-Ints.is ∙ size-ints c.in-Ints.field-0 c.args.from c.args.to c.requires.order within in
+    ap (λ (x : Cells). row_size (slice_range (values_of x) c.args.from c.args.to)) c.in-Ints.is ∙ size-ints c.in-Ints.field-0 c.args.from c.args.to c.requires.order within in
     omega (arith, size, c.requires.few, c.requires.within)
 
 pub returns-in-Decimals : goal.returns-in-Decimals
 returns-in-Decimals c =
     let within : c.args.to ≤ length c.in-Decimals.field-2 = omega (arith, c.requires.within, ap (λ (x : Cells). length (values_of x)) c.in-Decimals.is, length-values (at_scale c.in-Decimals.field-1) c.in-Decimals.field-2) in
     let size : row_size (slice_range (values_of c.args.self.now) c.args.from c.args.to) ≡ 16 * (c.args.to - c.args.from) =
-        ap (λ (x : Cells). row_size (slice_range (values_of x) c.args.from c.args.to)) c.in-Decimals.is ∙ size-decimals c.in-Decimals.field-1 c.in-Decimals.field-2 c.args.from c.args.to c.requires.order within in
+    ap (λ (x : Cells). row_size (slice_range (values_of x) c.args.from c.args.to)) c.in-Decimals.is ∙ size-decimals c.in-Decimals.field-1 c.in-Decimals.field-2 c.args.from c.args.to c.requires.order within in
     omega (arith, size, c.requires.few, c.requires.within)
