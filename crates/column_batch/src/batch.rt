@@ -200,8 +200,10 @@ impl Batch {
             ++ printed (rows.cell (slice_index_or self.now.rows at []) column)) }
         ensures err { OnErr result (StartsWith (string_bytes text.new) (string_bytes text.old)) }
     {
-        push_printed(text, self.cell(at, column))?;
-        Ok(())
+        match self.cell(at, column) {
+            Cell::Dec(number) => push_printed(text, Cell::Dec(number)),
+            cell => push_printed(text, cell),
+        }
     }
 
     /// The sum of the sizes of its rows in bytes, or 2^64 - 1 where that is less.

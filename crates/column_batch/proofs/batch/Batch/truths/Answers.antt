@@ -31,6 +31,6 @@ returns c =
     let long : c.self.inside.from + c.self.inside.rows ≤ length (get_or c.self.inside.columns.items c.args.at c.index.result.now).values =
     long-at c.self.inside.columns.items c.self.inside.from c.self.inside.rows c.args.at c.index.result.now c.self.invariant (omega (arith, c.requires.column)) in
     let item : c.column.result.now ≡ get_or c.self.inside.columns.items c.args.at c.index.result.now = c.column.ensures ∙ c.index.ensures in
-    c.truths.ensures ∙ ap (λ (x : KindedValues). slice_range x.values c.self.inside.from (c.self.inside.from + c.self.inside.rows)) item
+    c.truths.ensures.value ∙ ap (λ (x : KindedValues). slice_range x.values c.self.inside.from (c.self.inside.from + c.self.inside.rows)) item
     ∙ sym (column_of-rows c.self.inside.columns.items c.self.inside.from c.self.inside.rows c.args.at c.index.result.now (omega (arith, c.requires.column)) long)
     ∙ ap (λ (x : KindedRows). column_of x.rows c.args.at) c.self.view_is
