@@ -1,0 +1,5 @@
+pub mod MaskedLemmas
+pub mod PieceLemmas
+pub mod ColumnLemmas
+pub mod SizeLemmas
+pub mod PrintLemmas

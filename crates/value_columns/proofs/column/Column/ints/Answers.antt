@@ -1,0 +1,13 @@
+use Rattle.std.proofs.Common.{rules, ◌≡◌, map, ap, ◌∙◌}
+use Rattle.std.specs.Prelude.{slice_range}
+use Rattle.dfx_value.specs.declared.value.Value.TheVariants as value
+use Rattle.value_columns.specs.Columns.{KindedValues, or_null}
+use Rattle.value_columns.specs.Storage.{values_of}
+use Rattle.value_columns.proofs.ColumnLemmas.{masked-values}
+use Rattle.value_columns.proofs.column.Column.ints.Goals as goal
+
+pub returns-clause-value : goal.returns-clause-value
+returns-clause-value c =
+    ap (map (or_null value.Int)) c.part.ensures.value
+    ∙ masked-values value.Int c.ints.result.now (values_of c.self.inside.cells) c.args.from c.args.to c.ints.ensures
+    ∙ ap (λ (x : KindedValues). slice_range x.values c.args.from c.args.to) c.self.view_is
