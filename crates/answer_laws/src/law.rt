@@ -1,3 +1,5 @@
+//! Laws: what a plan's partitions would give is what its query's body means.
+
 ghost use Rattle.std.specs.Prelude.{◌≡◌, ℕ, true, List, [], length, map};
 ghost use Rattle.run_journal.specs.declared.entry.Entry.{Entry};
 ghost use Rattle.core_frame.specs.Frame.{place_of};

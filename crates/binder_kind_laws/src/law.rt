@@ -1,3 +1,5 @@
+//! The law of kinds: what a script means is well-kinded.
+
 ghost use Rattle.std.specs.Prelude.{◌≡◌, ℕ, true, Ok, Some, None, List, length, map};
 ghost use Rattle.dfx_value.specs.Kinds.{are_kinds};
 ghost use Rattle.scalar_exprs.specs.Kinds.{kind_of, constants_fit};

@@ -1,3 +1,5 @@
+//! The law of ranges: the query that a script means has its columns in range.
+
 ghost use Rattle.std.specs.Prelude.{ℕ, ◌≡◌, List, length, Ok};
 ghost use Rattle.logical_plan.specs.declared.query.Query.{Query as AQuery};
 ghost use Rattle.sql_grammar.specs.declared.ast.Script.{Script as AScript};

@@ -1,3 +1,5 @@
+//! Laws: the whole contents of a run's channels.
+
 ghost use Rattle.std.specs.Prelude.{ℕ, ◌<◌, ◌≤◌, ◌≡◌, Bool, true, false, Some, List, length};
 ghost use Rattle.std.specs.List.{sum_by, AllPass};
 ghost use Rattle.std.specs.List.Sorted.{IsPermutation};

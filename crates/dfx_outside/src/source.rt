@@ -1,3 +1,5 @@
+//! Sources that are read by place, as a trait, and how all of one is read.
+
 ghost use Rattle.std.specs.Prelude.{◌≡◌, ◌≤◌, ◌<◌, ◌+◌, take, ℕ, List, length, Option, Some, Err, IfOk};
 ghost use Rattle.dfx_outside.specs.Causes.{HasCause, Rose};
 ghost use Rattle.dfx_outside.specs.Bytes.{IsFilled};

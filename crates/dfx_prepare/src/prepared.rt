@@ -1,3 +1,5 @@
+//! What preparing a script gives.
+
 use dfx_value::{Seq, Text};
 use logical_plan::Query;
 use physical_plan::Plan;

@@ -1,3 +1,5 @@
+//! Puts exchanges where nodes need a distribution.
+
 ghost use Rattle.std.specs.Prelude.{◌≡◌, IfOk, map, reverse};
 ghost use Rattle.enforce_dist.specs.Distribute as spec;
 

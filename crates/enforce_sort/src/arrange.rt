@@ -1,3 +1,5 @@
+//! Puts sorts and merges where nodes need an order.
+
 ghost use Rattle.std.specs.Prelude.{◌≡◌, IfOk, map, reverse};
 ghost use Rattle.plan_props.specs.Satisfies as tests;
 ghost use Rattle.physical_plan.specs.Properties as declared;

@@ -1,3 +1,5 @@
+//! What the items of a grouped select are over.
+
 use dfx_value::Kind;
 use sql_grammar::ast::ExprAst;
 use std::marker::Model;

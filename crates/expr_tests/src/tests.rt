@@ -1,3 +1,5 @@
+//! Tests of expressions: a sum, faults, kinds and copies.
+
 use dfx_value::{EvalFault, Kind, Row, Value};
 use logical_plan::{Logical, kinds_of};
 use scalar_exprs::{EvalRefused, Expr, Op, copy_expr, eval, kind_of};

@@ -1,3 +1,5 @@
+//! Tests of failures: the status and the line of each.
+
 use dfx_value::{EvalFault, Text};
 use failure_text::{Failure, failure_line, fault_text, status_of};
 use run_journal::Cause;

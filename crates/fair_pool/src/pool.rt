@@ -1,3 +1,5 @@
+//! What the consumers of a memory limit hold of it.
+
 ghost use Rattle.std.specs.Prelude.{◌≡◌, ℕ, ◌+◌, ◌-◌, ◌<◌, ◌≤◌, ◌↔◌, sum, length, IsOk, IfOk, IfErr, OnOk, OnErr, slice_set};
 ghost use Rattle.fair_pool.specs.Share.{unreserved, share_of, held_by, with_held, spillables};
 ghost use Rattle.fair_pool.specs.Refusal.{Tells};

@@ -1,3 +1,5 @@
+//! Laws: a fault that ends a run is one that its query meets.
+
 ghost use Rattle.std.specs.Prelude.{◌≡◌, ◌<◌, ℕ, Bool, true, Option, Some, List};
 ghost use Rattle.std.specs.List.{AllPass};
 ghost use Rattle.dfx_value.specs.declared.fault.ItemFault.{ItemFault};

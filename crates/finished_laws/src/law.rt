@@ -1,3 +1,5 @@
+//! Laws of finished plans: what their partitions give, and the answers that these are.
+
 ghost use Rattle.std.specs.Prelude.{◌≡◌, ◌<◌, ◌||◌, nat_lt, is_some, ℕ, true, false, List, map};
 ghost use Rattle.dfx_value.specs.declared.rows.SortKey.{SortKey as Key};
 ghost use Rattle.plan_props.specs.Satisfies.{satisfies_order};

@@ -1,3 +1,5 @@
+//! One channel of an exchange: its batches, and who is done with it.
+
 ghost use Rattle.std.specs.Prelude.{◌≡◌, ℕ, ◌<◌, IfOk, IfErr};
 ghost use Rattle.gate_channels.specs.Gate.{after_send, after_end, after_drop, woken_by_end, some_live, some_free, is_open};
 ghost use Rattle.gate_channels.specs.Answers.{Takes};

@@ -1,3 +1,5 @@
+//! The channels of one exchange behind one gate.
+
 ghost use Rattle.std.specs.Prelude.{◌≡◌, ℕ, ◌<◌, List, [], ◌++◌, length, IfOk, Some, map};
 ghost use Rattle.task_shape.specs.Numbers.{count};
 ghost use Rattle.gate_channels.specs.Gate.{channel_at, one_of, ended, dropped};

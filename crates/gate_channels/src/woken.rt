@@ -1,3 +1,5 @@
+//! The queue of tasks that were woken.
+
 ghost use Rattle.std.specs.Prelude.{◌≡◌, ℕ, ◌<◌, ◌≤◌, [], ◌∷◌, ◌++◌, length, IfOk, IfSome, IfNone, slice_index, remove};
 ghost use Rattle.std.specs.Option.{option_to_list};
 ghost use Rattle.task_shape.specs.Numbers.{AreApart, count};

@@ -1,3 +1,5 @@
+//! Laws of histories: what tasks' histories tell of a run.
+
 ghost use Rattle.std.specs.Prelude.{◌≡◌, ℕ, Bool, List, map, Option, Some, option_map};
 ghost use Rattle.run_journal.specs.declared.entry.Entry.{Entry};
 ghost use Rattle.run_journal.specs.declared.entry.EntryKind.{EntryKind};

@@ -1,3 +1,5 @@
+//! Laws of hash joins: partitions give together what the whole does.
+
 ghost use Rattle.std.specs.Prelude.{◌≡◌, ◌≤◌, ◌<◌, ℕ, ◌+◌, ◌&&◌, Bool, false, not, List, [], ◌++◌, length, map, Option, Some, unwrap_or, if◌then◌else◌};
 ghost use Rattle.std.specs.List.{flat_map, All, AllPass};
 ghost use Rattle.dfx_value.specs.Kinds.{are_of};

@@ -1,3 +1,5 @@
+//! Tests of lowered joins, as text.
+
 use crate::read::read;
 use crate::shown::show_body;
 use dfx_value::{JoinKind, Kind};

@@ -1,3 +1,5 @@
+//! The law of a table of keys: what a key finds.
+
 ghost use Rattle.std.specs.Prelude.{◌≡◌, List, Some, unwrap_or, if◌then◌else◌};
 ghost use Rattle.dfx_value.specs.declared.value.Value.{Value};
 ghost use Rattle.scalar_exprs.specs.Groups.{same_keys};

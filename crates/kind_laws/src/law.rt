@@ -1,3 +1,5 @@
+//! Laws of kinds: well-kinded bodies give rows of their kinds, and so do CSV files.
+
 ghost use Rattle.std.specs.Prelude.{◌≡◌, true, List, map, length};
 ghost use Rattle.dfx_outside.specs.Contents.{Contents};
 ghost use Rattle.dfx_value.specs.declared.kind.Kind.{Kind as AKind};

@@ -1,3 +1,5 @@
+//! The law that well-kinded bodies are what the answers of finished plans ask for.
+
 ghost use Rattle.std.specs.Prelude.{◌≡◌, ℕ, true, List, map, length};
 ghost use Rattle.dfx_outside.specs.Contents.{Contents};
 ghost use Rattle.dfx_value.specs.declared.kind.Kind.{Kind as AKind};

@@ -1,3 +1,5 @@
+//! Counts as 32-bit numbers.
+
 ghost use Rattle.std.specs.Prelude.{◌≡◌, IfOk};
 
 use dfx_value::NoMemory;

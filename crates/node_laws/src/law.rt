@@ -1,3 +1,5 @@
+//! Laws of nodes: what a node declares stands of the rows that it gives.
+
 ghost use Rattle.std.specs.Prelude.{ℕ, ◌≡◌, true, List, [], ◌∷◌, length};
 ghost use Rattle.scalar_exprs.specs.declared.expr.Expr.{Expr as AnExpr};
 ghost use Rattle.dfx_value.specs.declared.rows.SortKey.{SortKey as Key};

@@ -1,3 +1,5 @@
+//! Laws of partitions: grouping, joining and sorting them is as on the whole.
+
 ghost use Rattle.std.specs.Prelude.{Bool, ℕ, List};
 ghost use Rattle.physical_plan.specs.declared.plan.Plan.{Plan};
 ghost use Rattle.physical_plan.specs.declared.plan.Plan.TheOpen.{Plan-F as Node};

@@ -1,3 +1,5 @@
+//! Laws of grouping in two phases.
+
 ghost use Rattle.std.specs.Prelude.{◌≡◌, ◌<◌, ℕ, List, [], ◌∷◌, ◌++◌, Bool, Option, length, drop, fold, map};
 ghost use Rattle.std.specs.List.{flat_map, AllPass};
 ghost use Rattle.dfx_value.specs.Kinds.{are_of};

@@ -1,3 +1,5 @@
+//! The plain plan of a body, without exchanges and sorts for them.
+
 ghost use Rattle.std.specs.Prelude.{◌≡◌, ◌+◌, IfOk, slice_index_or, [], None};
 ghost use Rattle.physical_plan.specs.Numbers.{numbers_from, numbers};
 ghost use Rattle.physical_build.specs.Build as spec;

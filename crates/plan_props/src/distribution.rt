@@ -1,3 +1,5 @@
+//! Whether declared properties meet a need of distribution.
+
 ghost use Rattle.std.specs.Prelude.{◌≡◌, ◌==◌, IfOk};
 ghost use Rattle.plan_props.specs.Satisfies as spec;
 

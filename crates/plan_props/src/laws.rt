@@ -1,3 +1,5 @@
+//! Laws of properties: a yes to a need is sound.
+
 ghost use Rattle.std.specs.Prelude.{◌≡◌, ℕ, true, List};
 ghost use Rattle.dfx_value.specs.declared.rows.SortKey.{SortKey as Key};
 ghost use Rattle.plan_props.specs.declared.properties.Props.{Props as Declared};

@@ -1,3 +1,5 @@
+//! Whether a declared order meets the keys of another.
+
 ghost use Rattle.std.specs.Prelude.{◌≡◌, [], IfOk};
 ghost use Rattle.plan_props.specs.Leaders.{IsTable};
 ghost use Rattle.plan_props.specs.Satisfies as spec;

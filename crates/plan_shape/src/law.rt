@@ -1,3 +1,5 @@
+//! The law of shapes: the tasks of a plan, their channels and their consumers.
+
 ghost use Rattle.std.specs.Prelude.{◌≡◌, ℕ, length, map};
 ghost use Rattle.std.specs.List.{flat_map};
 ghost use Rattle.task_shape.specs.Shape.{Ascends, HasOwners, IsShape, TaskShape as ATask, task_at};

@@ -1,3 +1,5 @@
+//! Laws: the trees of a plan's partitions are those of its layout's tasks.
+
 ghost use Rattle.std.specs.Prelude.{◌≡◌, ◌+◌, ◌<◌, ℕ, Bool, true, List, ◌∷◌, ◌++◌, length, map, is_some, if◌then◌else◌, slice_index_or};
 ghost use Rattle.physical_plan.specs.declared.plan.Plan.{Plan};
 ghost use Rattle.physical_plan.specs.declared.plan.Plan.TheOpen.{Plan-F};

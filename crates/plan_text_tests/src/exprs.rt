@@ -1,3 +1,5 @@
+//! Tests of the text of expressions, and where parentheses stand.
+
 use crate::shown::{abs, binary, boxed, cast, int, is_expr, is_null, length, neg, not, text};
 use dfx_value::{Decimal, Kind, Op, Value};
 use scalar_exprs::Expr;

@@ -1,3 +1,5 @@
+//! Tests of the line of each node.
+
 use crate::shown::{int, is_node, is_text, scan, scan_of, text};
 use dfx_value::{AggCall, JoinKind, SortKey};
 use physical_plan::Plan;

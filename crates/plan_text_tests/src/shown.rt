@@ -1,3 +1,5 @@
+//! How the tests show a plan.
+
 use dfx_value::{Bytes, Kind, Op, Text, Value};
 use physical_plan::Plan;
 use plan_text::plan_text;

@@ -1,3 +1,5 @@
+//! Laws of the planner: a finished run's output is an answer that the query allows.
+
 ghost use Rattle.std.specs.Prelude.{◌≡◌, ◌<◌, ℕ, true, List};
 ghost use Rattle.plan_props.specs.Meets.{Hashing, IsHash};
 ghost use Rattle.physical_plan.specs.declared.plan.Plan.{Plan};

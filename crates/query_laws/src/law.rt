@@ -1,3 +1,5 @@
+//! The law of queries: every run of the plan of a script, in any order of entries.
+
 ghost use Rattle.std.specs.Prelude.{◌≡◌, ◌++◌, true, List, [], ◌∷◌};
 ghost use Rattle.run_journal.specs.declared.entry.Entry.{Entry};
 ghost use Rattle.run_journal.specs.declared.entry.EntryKind.TheVariants.{Failed};

@@ -1,3 +1,5 @@
+//! The events of a run in order, with its settings.
+
 use crate::entry::Entry;
 use dfx_value::Seq;
 

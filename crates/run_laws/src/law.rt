@@ -1,3 +1,5 @@
+//! Laws of runs: what entries tell, and what those of others leave.
+
 ghost use Rattle.std.specs.Prelude.{◌≡◌, ◌++◌, ◌≢◌, ◌↔◌, ℕ, true, false, List, [], ◌∷◌, map};
 ghost use Rattle.std.specs.Prelude.{Some, None, is_some, option_map};
 ghost use Rattle.run_journal.specs.declared.entry.Entry.{Entry};

@@ -1,3 +1,5 @@
+//! Tests of filters and projections over one scan.
+
 use csv_source::CsvRefused;
 use dfx_outside::{MemFiles, MemSink, are_distinct};
 use dfx_value::{Bytes, EvalFault, Kind, Op, Seq, Text, Value};

@@ -1,3 +1,5 @@
+//! Why a part of a file of cases means nothing.
+
 ghost use Rattle.std.specs.Prelude.{◌≡◌};
 
 use dfx_value::NoMemory;

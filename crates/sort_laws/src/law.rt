@@ -1,3 +1,5 @@
+//! Laws of the stable sort, over whatever sorted runs.
+
 ghost use Rattle.std.specs.Prelude.{◌≡◌, ◌+◌, ◌<◌, ℕ, Bool, true, Option, Some, None, List, [], ◌∷◌, ◌++◌, length, take, drop, map, slice_set, IsPermutation, IsSorted};
 ghost use Rattle.std.specs.List.{AllPass};
 ghost use Rattle.std.specs.List.Sorted.{IsStable, IsSortedBy};

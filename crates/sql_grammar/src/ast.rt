@@ -1,3 +1,5 @@
+//! The trees of scripts.
+
 use dfx_value::{JoinKind, Kind, Op, Seq, Text};
 use sqlite_items::{Boxed, Items};
 

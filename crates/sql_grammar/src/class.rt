@@ -1,3 +1,5 @@
+//! What the grammar sees of tokens.
+
 ghost use Rattle.std.specs.Prelude.{◌≡◌, nat_eq};
 ghost use Rattle.sql_grammar.specs.Class as spec;
 ghost use Rattle.sql_grammar.specs.Class.{rank};

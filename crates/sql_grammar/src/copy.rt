@@ -1,3 +1,5 @@
+//! Copies of expressions of the grammar.
+
 ghost use Rattle.std.specs.Prelude.{◌≡◌, IfOk};
 
 use crate::ast::{ExprAst, NodeAst};

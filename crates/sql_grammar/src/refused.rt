@@ -1,3 +1,5 @@
+//! Why tokens spell no script.
+
 use thiserror::Error;
 
 /// Why the tokens of a script spell none. Places are those of bytes in the script, from 0.

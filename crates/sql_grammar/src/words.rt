@@ -1,3 +1,5 @@
+//! The words of the grammar.
+
 ghost use Rattle.std.specs.Prelude.{◌≡◌};
 ghost use Rattle.std.specs.Str.{str_to_ascii_lowercase};
 ghost use Rattle.sql_grammar.specs.Words as spec;

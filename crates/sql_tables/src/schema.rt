@@ -1,3 +1,5 @@
+//! The columns of a table.
+
 ghost use Rattle.std.specs.Prelude.{◌≡◌, IfOk, map};
 ghost use Rattle.sql_tables.specs.Tables as spec;
 

@@ -1,3 +1,5 @@
+//! A table that selects can read.
+
 use dfx_value::{Kind, Seq, Text};
 
 /// A table that selects can read.

@@ -1,3 +1,5 @@
+//! The law of states: each that a finished plan's run reaches is good.
+
 ghost use Rattle.std.specs.Prelude.{◌≡◌, ℕ, ◌<◌, true, List};
 ghost use Rattle.run_journal.specs.declared.entry.Entry.{Entry};
 ghost use Rattle.plan_props.specs.Meets.{Hashing};

@@ -1,3 +1,5 @@
+//! Laws of operator trees: a tree agrees with its task's history.
+
 ghost use Rattle.std.specs.Prelude.{◌≡◌, ◌≤◌, ◌<◌, ◌++◌, ℕ, Bool, true, Option, Some, None, is_some, List};
 ghost use Rattle.run_journal.specs.declared.entry.Entry.{Entry};
 ghost use Rattle.run_journal.specs.declared.entry.EntryKind.TheVariants.{Wrote};

@@ -1,3 +1,5 @@
+//! Counts the turns that workers take at one cell.
+
 ghost use Rattle.std.specs.Prelude.{◌≡◌, ◌≤◌, [], All, length};
 ghost use Rattle.turn_cell.specs.Cells.{IsSeatOf, IsIdle, IsSameSeat};
 

@@ -1,3 +1,5 @@
+//! What is rung when there is news, for workers that rest.
+
 use crate::patience::{Patience, low_half};
 use std::sync::Wait;
 use std::sync::atomic::{AtomicU64, Ordering};

@@ -1,3 +1,5 @@
+//! Opening a cell, taking a turn at its value, and closing it.
+
 ghost use Rattle.std.specs.Prelude.{◌≡◌, ◌≢◌, ℕ, ◌<◌, ◌≤◌, ◌++◌, [], ◌∷◌, List, Some, None, IfOk, IfErr, length, slice_index_or, All, vec_capacity};
 ghost use Rattle.turn_cell.specs.declared.act.Act.{Act};
 ghost use Rattle.turn_cell.specs.Acts.{acts_by, journal_of, Adds, Follows, JournalFollows};

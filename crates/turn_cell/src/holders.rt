@@ -1,3 +1,5 @@
+//! The cell that seats share, and the right to take turns at it.
+
 ghost use Rattle.std.specs.Prelude.{◌≡◌, ◌≤◌};
 
 use crate::bell::Bell;

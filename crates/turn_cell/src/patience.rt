@@ -1,3 +1,5 @@
+//! How a worker waits before it sleeps.
+
 use std::{hint, thread};
 
 // How often a worker that waits looks at once again, and how often it then gives its time slice up between two looks.

@@ -1,3 +1,5 @@
+//! Tests of turns: seats on threads take turns at one log.
+
 ghost use Rattle.std.specs.Prelude.{◌≡◌, ◌≤◌, ◌<◌, [], All, length};
 ghost use Rattle.turn_cell.specs.Acts.{Adds};
 ghost use Rattle.turn_cell.specs.Cells.{IsSeatOf, IsIdle, IsSameSeat};

@@ -1,3 +1,5 @@
+//! Why a script has no meaning.
+
 ghost use Rattle.std.specs.Prelude.{◌≡◌};
 ghost use Rattle.typed_exprs.specs.declared.refusal.Unbound.TheVariants as unbound;
 

@@ -1,3 +1,5 @@
+//! The loop of a worker.
+
 ghost use Rattle.std.specs.Prelude.{◌≡◌, ℕ, ◌≤◌, ◌<◌, [], List, length, slice_index_or, Some, None, IfOk, IfErr};
 ghost use Rattle.turn_cell.specs.Acts.{IsPrefix, journal_of};
 ghost use Rattle.turn_cell.specs.Loans.{loan_of};

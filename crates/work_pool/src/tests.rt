@@ -1,3 +1,5 @@
+//! Tests of the pool: every job is served, and workers meet outside the cell.
+
 mod jobs;
 mod notes;
 

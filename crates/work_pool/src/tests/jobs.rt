@@ -1,4 +1,5 @@
-// A small run: jobs that are served for some rounds each, and may meet another job meanwhile.
+//! A small run: jobs that are served for some rounds each, and may meet another job meanwhile.
+
 ghost use Rattle.std.specs.Prelude.{◌≡◌, ℕ, ◌≤◌, [], List, Some, IfOk};
 ghost use Rattle.std.proofs.Common.{ap, sym, ◌∙◌};
 ghost use Rattle.turn_cell.specs.Loans.{loan_of, loan_follows};

@@ -1,4 +1,5 @@
-// A gate that notes with which tasks each worker passed.
+//! A gate that notes with which tasks each worker passed.
+
 use dfx_outside::KernelGate;
 use run_journal::EntryKind;
 use std::alloc::{AllocError, Global};
