@@ -1,7 +1,6 @@
 //! The join of two bodies on a test.
 
 ghost use Rattle.std.specs.Prelude.{◌≡◌, IfOk, length};
-ghost use Rattle.join_lowering.specs.Keys as parts;
 ghost use Rattle.join_lowering.specs.Lowering as spec;
 
 use crate::appended::{join, on_appended};
@@ -130,17 +129,6 @@ fn on_found(
     Ok(Some(body))
 }
 
-fn found_in(alloc: Global, on: Expr, width: u32) -> Result<Found, NoMemory>
-    ensures keys { IfOk result (λ f. f.keys ≡ parts.keys width (parts.conjuncts on)) }
-    ensures rest { IfOk result (λ f. f.rest ≡ parts.residual width on) }
-{
-    let nothing = Found {
-        keys: Items::new(alloc),
-        rest: None,
-    };
-    split(alloc, on, width, nothing)
-}
-
 /// The join of two bodies on a bound test over the left columns and then the right ones; none where no part of the test is an
 /// equality of both sides.
 ///
@@ -156,6 +144,6 @@ pub fn lower_join(
 ) -> Result<Option<Logical>, NoMemory>
     ensures { IfOk result (λ body. body ≡ spec.lowered kind left right on) }
 {
-    let found = found_in(alloc, on, left.width)?;
+    let found = split(alloc, on, left.width)?;
     on_found(alloc, kind, left, right, found)
 }

@@ -81,30 +81,53 @@ fn with_equality(
     with_rest(alloc, found, Expr::Binary(Op::Eq, left, right))
 }
 
-/// What was found before, and what the parts of a test are.
-#[tactic(auto, using(crate::proofs::Nodes::conjuncts_by_node, crate::proofs::Parts::parts))]
-pub(crate) fn split(alloc: Global, test: Expr, width: u32, found: Found) -> Result<Found, NoMemory>
-    ensures keys { IfOk result (λ f. f.keys ≡ found.keys ++ spec.keys width (spec.conjuncts test)) }
-    ensures rest { IfOk result (λ f. f.rest ≡ spec.conjoined found.rest (spec.others width (spec.conjuncts test))) }
+/// One part more: a key, or what is left to test.
+fn with_part(alloc: Global, found: Found, part: Expr, width: u32) -> Result<Found, NoMemory>
+    ensures keys { IfOk result (λ f. f.keys ≡ found.keys ++ spec.keys width (part ∷ [])) }
+    ensures rest { IfOk result (λ f. f.rest ≡ spec.conjoined found.rest (spec.others width (part ∷ []))) }
+{
+    match part {
+        Expr::Binary(Op::Eq, left, right) => with_equality(alloc, left, right, width, found),
+        other => with_rest(alloc, found, other),
+    }
+}
+
+fn with_last(mut before: Vec<Expr>, part: Expr) -> Result<Vec<Expr>, NoMemory>
+    ensures { IfOk result (λ parts. parts.items ≡ before.items ++ part ∷ []) }
+{
+    before.push(part)?;
+    Ok(before)
+}
+
+/// The parts between the ANDs at the top of a test, behind those before.
+#[tactic(auto, using(crate::proofs::Parts::conjuncts_by_top, crate::proofs::Parts::both_parts))]
+fn conjuncts(test: Expr, before: Vec<Expr>) -> Result<Vec<Expr>, NoMemory>
+    ensures { IfOk result (λ parts. parts.items ≡ before.items ++ spec.conjuncts test) }
 {
     match test {
         Expr::Binary(op, left, right) => match op {
             Op::And => {
-                let found = split(alloc, left.into_inner(), width, found)?;
-                split(alloc, right.into_inner(), width, found)
+                let before = conjuncts(left.into_inner(), before)?;
+                conjuncts(right.into_inner(), before)
             }
-            Op::Eq => with_equality(alloc, left, right, width, found),
-            _ => with_rest(alloc, found, Expr::Binary(op, left, right)),
+            _ => with_last(before, Expr::Binary(op, left, right)),
         },
-        Expr::Column(column) => with_rest(alloc, found, Expr::Column(column)),
-        Expr::Const(value, kind) => with_rest(alloc, found, Expr::Const(value, kind)),
-        Expr::Not(inner) => with_rest(alloc, found, Expr::Not(inner)),
-        Expr::Neg(inner) => with_rest(alloc, found, Expr::Neg(inner)),
-        Expr::IsNull(inner) => with_rest(alloc, found, Expr::IsNull(inner)),
-        Expr::Case(arms, other) => with_rest(alloc, found, Expr::Case(arms, other)),
-        Expr::Coalesce(parts) => with_rest(alloc, found, Expr::Coalesce(parts)),
-        Expr::Cast(inner, kind) => with_rest(alloc, found, Expr::Cast(inner, kind)),
-        Expr::Abs(inner) => with_rest(alloc, found, Expr::Abs(inner)),
-        Expr::Length(inner) => with_rest(alloc, found, Expr::Length(inner)),
+        part => with_last(before, part),
     }
+}
+
+/// The keys among the parts of a test, and the other parts.
+#[tactic(auto, using(crate::proofs::Parts::parts))]
+pub(crate) fn split(alloc: Global, test: Expr, width: u32) -> Result<Found, NoMemory>
+    ensures keys { IfOk result (λ f. f.keys ≡ spec.keys width (spec.conjuncts test)) }
+    ensures rest { IfOk result (λ f. f.rest ≡ spec.residual width test) }
+{
+    let mut found = Found {
+        keys: Items::new(alloc),
+        rest: None,
+    };
+    for part in conjuncts(test, Vec::new(alloc))? {
+        found = with_part(alloc, found, part, width)?;
+    }
+    Ok(found)
 }
