@@ -6,7 +6,7 @@ use Rattle.std.specs.Str.{all_ascii_digits, is_utf8}
 use Rattle.std.specs.Fmt.{decimal, signed_decimal}
 use Rattle.std.proofs.Math.Nat.{mul_comm, div-le_self, pow-succ', div-lt_iff_lt-mul}
 use Rattle.std.proofs.lemmas.Nat.{div-add-mod', mod_below}
-use Rattle.std.proofs.lemmas.Bool.{and_parts, and_from, ltb-true, false_from_ne_true}
+use Rattle.std.proofs.lemmas.Bool.{and_parts, and_from, leb-true, le-leb, ltb-true, false_from_ne_true}
 use Rattle.std.proofs.lemmas.Fmt.{decimal_by_steps_wide}
 use Rattle.std.proofs.lemmas.List.{append-nil, length-append}
 use Rattle.dfx_value.specs.Number.{Number}
@@ -18,7 +18,7 @@ use Rattle.dfx_value.specs.declared.kind.Kind.{Kind}
 use Rattle.dfx_value.specs.declared.kind.Kind.TheVariants as kind
 use Rattle.dfx_value.specs.declared.value.Value.{Value}
 use Rattle.dfx_value.specs.declared.value.Value.TheVariants as value
-use Rattle.dfx_value.proofs.FieldLemmas.{value_after-append, after_shift, digits-append, digit_range, units_of}
+use Rattle.dfx_value.proofs.FieldLemmas.{value_after-append, after_shift, digits-append, units_of}
 use Rattle.dfx_value.proofs.DecimalLemmas.{ten_below, ten_positive}
 use Rattle.dfx_value.proofs.KindSteps.{precision_fits}
 
@@ -29,6 +29,9 @@ pub record Writes (n : ℕ) (ds : List ℕ) : Type 0 where
   digits : all_ascii_digits ds ≡ true
   value : value_after 0 ds ≡ n
   some : is_empty ds ≡ false
+
+digit_range : (b : ℕ) → is_ascii_digit b ≡ true → (48 ≤ b) × (b ≤ 57)
+digit_range b h = let both = and_parts (leb 48 b) (leb b 57) h in (leb-true 48 b both.0, leb-true b 57 both.1)
 
 digit_is : (d : ℕ) → d < 10 → is_ascii_digit (48 + d) ≡ true
 digit_is d h = and_from (leb 48 (48 + d)) (leb (48 + d) 57) (le-leb 48 (48 + d) (omega arith)) (le-leb (48 + d) 57 (omega arith))
