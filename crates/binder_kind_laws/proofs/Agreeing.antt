@@ -1,5 +1,6 @@
 -- Equal expressions mean the same over columns, but for the places of refusals.
-use Rattle.std.specs.Prelude.{nat_eq}
+use Rattle.std.specs.Prelude.{nat_eq, not}
+use Rattle.std.specs.Str.{is_utf8}
 use Rattle.std.proofs.Common.{ℕ, ◌≡◌, refl, sym, ap, ◌∙◌, subst, Bool, true, false, ◌&&◌, Option, Some, None, Ok, Err, List, [], ◌∷◌, map}
 use Rattle.std.proofs.lemmas.Bool.{eqb-true, and_parts, false≢true}
 use Rattle.dfx_value.specs.declared.kind.Kind.{Kind}
@@ -32,7 +33,7 @@ use Rattle.typed_exprs.specs.Literals.{literal}
 use Rattle.expr_binder.specs.Same.{same_column, same_truth, function_rank, op_rank, Is, all_same, arms_same, same_layer, same_node, same_expr, same, same_nodes}
 use Rattle.typed_exprs.specs.Scopes.{Columns, is_text, is_named, is_unknown, numbers, the_one, column_of}
 use Rattle.typed_exprs.specs.Typed.{Kinded, settled, or_mismatch, of_kind, unary, given, kind_or, alone, mismatch, operator_kind, operated, binary, common, as_kind, coalesced}
-use Rattle.expr_binder.specs.Meaning.{Sense, Part, meaning, of_node, of_layer, node_sense, expr_sense, node_of, place_of, number, senses, arm_of, all, single, applied, applied_to_one, called}
+use Rattle.expr_binder.specs.Meaning.{Sense, Part, meaning, of_node, of_layer, node_sense, expr_sense, node_of, place_of, number, text, senses, arm_of, all, single, applied, applied_to_one, called}
 use Rattle.expr_binder.proofs.MeaningSteps.{meaning_is}
 use Rattle.binder_laws.proofs.Meanings.{over_none}
 
@@ -114,6 +115,15 @@ coalesced_same p q (t ∷ ts) =
 
 number_same : (p q : ℕ) (t : List ℕ) → Agree (number p (literal t)) (number q (literal t))
 number_same p q t = same_after (or_refuse why.Unsupported p (literal t)) (or_refuse why.Unsupported q (literal t)) (λ c. Ok (typed.Of (expr.Const c.0 c.1) c.1)) (λ c. Ok (typed.Of (expr.Const c.0 c.1) c.1)) (refused_same why.Unsupported p q (literal t)) (λ c. refl)
+
+text_same : (p q : ℕ) (t : List ℕ) → Agree (text p t) (text q t)
+text_same p q t = go (is_utf8 t) where
+  of : ℕ → Bool → Answer Typed
+  of place b = refuse_if (not b) why.Unsupported place (Ok (typed.Of (expr.Const (value.Text t) kind.Text) kind.Text))
+
+  go : (b : Bool) → Agree (of p b) (of q b)
+  go true = refl
+  go false = tt
 
 -- ---- CASE
 
@@ -324,7 +334,7 @@ module _ (columns : Columns) where
 
   layer_agrees : (y : NodeAst-F KnownNode Known) (v : NodeAst-F NodeAst ExprAst) → same_layer columns (Mapped (bare_node y)) v ≡ true → (e x : ExprAst) (p q : ℕ) → Agree (of_layer columns None e p (Below (bare_node y))) (of_layer columns None x q (Below v))
   layer_agrees (NodeAst-F.Number s) (NodeAst-F.Number t) h e x p q = subst (λ (t : List ℕ). Agree (number p (literal s)) (number q (literal t))) (text_is s t h) (number_same p q s)
-  layer_agrees (NodeAst-F.Str s) (NodeAst-F.Str t) h e x p q = ap (λ (t : List ℕ). typed.Of (expr.Const (value.Text t) kind.Text) kind.Text) (text_is s t h)
+  layer_agrees (NodeAst-F.Str s) (NodeAst-F.Str t) h e x p q = subst (λ (t : List ℕ). Agree (text p s) (text q t)) (text_is s t h) (text_same p q s)
   layer_agrees NodeAst-F.Null NodeAst-F.Null h e x p q = refl
   layer_agrees (NodeAst-F.Truth a) (NodeAst-F.Truth b) h e x p q = ap (λ (t : Bool). typed.Of (expr.Const (value.Bool t) kind.Bool) kind.Bool) (truth_is a b h)
   layer_agrees (NodeAst-F.Name s a) (NodeAst-F.Name t b) h e x p q = same_after (column_of columns p s a) (column_of columns q t b) _ _ (name_agrees p q s t a b h) (λ k. refl)

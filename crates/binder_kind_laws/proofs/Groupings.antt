@@ -37,7 +37,7 @@ use Rattle.binder_laws.proofs.Selves.{nat_self, self_is, self_at, selves}
 use Rattle.binder_laws.proofs.Found.{place_bound, IsFound, HasCalls}
 use Rattle.binder_kind_laws.proofs.Settled.{Real, HasKind, Typing, settled_kind, const_kind, column_has, unary_has, binary_has}
 use Rattle.binder_kind_laws.proofs.Unified.{ArmTyping, coalesced_has, chosen_has}
-use Rattle.binder_kind_laws.proofs.Meanings.{RealColumns, number_has, abs_has, length_has, the_single, means}
+use Rattle.binder_kind_laws.proofs.Meanings.{RealColumns, number_has, text_has, abs_has, length_has, the_single, means}
 use Rattle.binder_kind_laws.proofs.Agreeing.{agreed, agree_sym, agrees}
 use Rattle.binder_kind_laws.proofs.Callless.{is_free}
 use Rattle.binder_kind_laws.proofs.CallKinds.{agg_real, call_kind_of, Fitting, FitsArgument, FitsCall, argument_of, argument_of_all, call_kind_same, count_kind_same, found_at, behind, mapped, key_there}
@@ -256,7 +256,7 @@ module _ (columns : Columns) (real : RealColumns columns) (g : Groups) (keyed : 
 
   node_step : (y : NodeAst-F KnownNode Known) → NodeMeans (roll-NodeAst (map-NodeAst KnownNode Known NodeAst ExprAst (λ k. k.0) (λ k. k.0) y))
   node_step (NodeAst-F.Number t) = subst NodeMeans (sym (node.rolls-Number t)) (alone (node.Number t) (λ e. calls-Number e t) (λ e place. subst (Holds (Typing ks)) (sym (node-Number columns e place over t)) (number_has ks place t)))
-  node_step (NodeAst-F.Str t) = subst NodeMeans (sym (node.rolls-Str t)) (alone (node.Str t) (λ e. calls-Str e t) (λ e place. subst (Holds (Typing ks)) (sym (node-Str columns e place over t)) (const_kind ks (value.Text t) kind.Text refl refl)))
+  node_step (NodeAst-F.Str t) = subst NodeMeans (sym (node.rolls-Str t)) (alone (node.Str t) (λ e. calls-Str e t) (λ e place. subst (Holds (Typing ks)) (sym (node-Str columns e place over t)) (text_has ks place t)))
   node_step NodeAst-F.Null = subst NodeMeans (sym node.rolls-Null) (alone node.Null (λ e. calls-Null e) (λ e place. subst (Holds (Typing ks)) (sym (node-Null columns e place over)) tt))
   node_step (NodeAst-F.Truth b) = subst NodeMeans (sym (node.rolls-Truth b)) (alone (node.Truth b) (λ e. calls-Truth e b) (λ e place. subst (Holds (Typing ks)) (sym (node-Truth columns e place over b)) (const_kind ks (value.Bool b) kind.Bool refl refl)))
   node_step (NodeAst-F.Name alias name) = subst NodeMeans (sym (node.rolls-Name alias name)) (alone (node.Name alias name) (λ e. calls-Name e alias name) (λ e place. subst (Holds (Typing ks)) (sym (node-Name columns e place over alias name))

@@ -1,5 +1,6 @@
 -- The meaning of an expression over columns has the kind that is told with it.
-use Rattle.std.specs.Prelude.{nat_lt, slice_get, option_and_then}
+use Rattle.std.specs.Prelude.{nat_lt, not, slice_get, option_and_then}
+use Rattle.std.specs.Str.{is_utf8}
 use Rattle.std.proofs.Common.{ℕ, zero, suc, ◌≡◌, ◌<◌, refl, sym, ap, ◌∙◌, subst, cond, Bool, true, false, Option, Some, None, Ok, List, [], ◌∷◌, map, length, arith}
 use Rattle.std.proofs.lemmas.Bool.{ltb-true, and_parts}
 use Rattle.dfx_value.specs.Kinds.{is_kind, are_kinds, is_of}
@@ -28,12 +29,12 @@ use Rattle.typed_exprs.specs.declared.typed.Typed.TheVariants as typed
 use Rattle.typed_exprs.specs.declared.typed.Unary.{Unary}
 use Rattle.typed_exprs.specs.declared.typed.Unary.TheVariants as operator
 use Rattle.typed_exprs.specs.declared.refusal.Why.TheVariants as why
-use Rattle.typed_exprs.specs.Answer.{◌>>=◌, or_refuse}
+use Rattle.typed_exprs.specs.Answer.{◌>>=◌, or_refuse, refuse_if}
 use Rattle.typed_exprs.specs.Case.{chosen}
 use Rattle.typed_exprs.specs.Literals.{has_point, decimal_kind, with_kind, decimal, or_decimal, literal}
 use Rattle.typed_exprs.specs.Scopes.{Columns, column_of}
 use Rattle.typed_exprs.specs.Typed.{settled, of_kind, unary, binary}
-use Rattle.expr_binder.specs.Meaning.{meaning, of_node, place_of, meanings, arm_meaning, arms_meaning, other_meaning, single, applied, applied_to_one, call_meaning, case_meaning, column, kind_of_column, number, unary_meaning, binary_meaning}
+use Rattle.expr_binder.specs.Meaning.{meaning, of_node, place_of, meanings, arm_meaning, arms_meaning, other_meaning, single, applied, applied_to_one, call_meaning, case_meaning, column, kind_of_column, number, text, unary_meaning, binary_meaning}
 use Rattle.expr_binder.proofs.MeaningSteps.{meaning_is, node-Number, node-Str, node-Null, node-Truth, node-Name, node-Call, node-CountAll, node-Not, node-Neg, node-IsNull, node-Binary, node-Case, node-Cast}
 use Rattle.sql_binder.specs.Sources.{kinds}
 use Rattle.planned_laws.specs.Ranges.{are_below}
@@ -74,6 +75,13 @@ pub number_has : (ks : List Kind) (place : ℕ) (t : List ℕ) → Holds (Typing
 number_has ks place t =
     after Constant (Typing ks) (or_refuse why.Unsupported place (literal t)) (λ c. Ok (typed.Of (expr.Const c.0 c.1) c.1))
     (where_some Constant why.Unsupported place (literal t) (literal_constant t)) (λ c h. const_kind ks c.0 c.1 h.0 h.1)
+
+pub text_has : (ks : List Kind) (place : ℕ) (t : List ℕ) → Holds (Typing ks) (text place t)
+text_has ks place t = go (is_utf8 t) refl
+  where
+    go : (b : Bool) → is_utf8 t ≡ b → Holds (Typing ks) (refuse_if (not b) why.Unsupported place (Ok (typed.Of (expr.Const (value.Text t) kind.Text) kind.Text)))
+    go true e = const_kind ks (value.Text t) kind.Text refl e
+    go false e = tt
 
 -- ---- columns
 
@@ -208,7 +216,7 @@ module _ (columns : Columns) (real : RealColumns columns) where
 
   node_step : (y : NodeAst-F KnownNode Known) → NodeMeans (roll-NodeAst (map-NodeAst KnownNode Known NodeAst ExprAst (λ k. k.0) (λ k. k.0) y))
   node_step (NodeAst-F.Number t) = subst NodeMeans (sym (node.rolls-Number t)) (λ e place. subst (Holds here) (sym (node-Number columns e place None t)) (number_has (kinds columns) place t))
-  node_step (NodeAst-F.Str t) = subst NodeMeans (sym (node.rolls-Str t)) (λ e place. subst (Holds here) (sym (node-Str columns e place None t)) (const_kind (kinds columns) (value.Text t) kind.Text refl refl))
+  node_step (NodeAst-F.Str t) = subst NodeMeans (sym (node.rolls-Str t)) (λ e place. subst (Holds here) (sym (node-Str columns e place None t)) (text_has (kinds columns) place t))
   node_step NodeAst-F.Null = subst NodeMeans (sym node.rolls-Null) (λ e place. subst (Holds here) (sym (node-Null columns e place None)) tt)
   node_step (NodeAst-F.Truth b) = subst NodeMeans (sym (node.rolls-Truth b)) (λ e place. subst (Holds here) (sym (node-Truth columns e place None b)) (const_kind (kinds columns) (value.Bool b) kind.Bool refl refl))
   node_step (NodeAst-F.Name alias name) = subst NodeMeans (sym (node.rolls-Name alias name)) (λ e place. subst (Holds here) (sym (node-Name columns e place None alias name))

@@ -43,8 +43,8 @@ Typing ks (typed.Of e k) = HasKind ks e k
 
 pub scale_at_most : (p s : ℕ) → Real (kind.Dec p s) → s ≤ 38
 scale_at_most p s h =
-    let b = and_parts (nat_le p 38) (nat_le s p) h in
-    let x : p ≤ 38 = leb-true p 38 b.0 in
+    let b = and_parts (nat_le 1 p && nat_le p 38) (nat_le s p) h in
+    let x : p ≤ 38 = leb-true p 38 (and_parts (nat_le 1 p) (nat_le p 38) b.0).1 in
     let y : s ≤ p = leb-true s p b.1 in
     omega arith
 

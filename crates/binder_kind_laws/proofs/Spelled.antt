@@ -120,11 +120,11 @@ abbrev Real : Kind → Type 0
 Real k = is_kind k ≡ true
 
 abbrev Between : ℕ → ℕ → ℕ → Type 0
-Between least most n = nat_le n most ≡ true
+Between least most n = (nat_le least n && nat_le n most) ≡ true
 
-within_most : (least most : ℕ) (o : Option ℕ) → is_within least most o ≡ true → nat_le (or_zero o) most ≡ true
+within_most : (least most : ℕ) (o : Option ℕ) → is_within least most o ≡ true → Between least most (or_zero o)
 within_most least most None h = absurd (false≢true h)
-within_most least most (Some n) h = (and_parts (nat_le least n) (nat_le n most) h).1
+within_most least most (Some n) h = h
 
 number_gives : (least most : ℕ) → Gives (Between least most) (r.number_from least most)
 unfolding r.number_from
@@ -138,7 +138,7 @@ unfolding r.decimal
 decimal_gives =
     behind Real (terminal (one c.DecimalType)) _ (λ word. behind Real (terminal (one c.Open)) _ (λ open_.
     both (Between 1 38) Real (r.number_from 1 38) _ (number_gives 1 38) (λ p h. behind Real (terminal (one c.Comma)) _ (λ comma.
-    both (Between 0 p) Real (r.number_from 0 p) _ (number_gives 0 p) (λ s i. behind Real (terminal (one c.Close)) (λ close. pure (kind.Dec p s)) (λ close n ts. and_from (nat_le p 38) (nat_le s p) h i))))))
+    both (Between 0 p) Real (r.number_from 0 p) _ (number_gives 0 p) (λ s i. behind Real (terminal (one c.Close)) (λ close. pure (kind.Dec p s)) (λ close n ts. and_from (nat_le 1 p && nat_le p 38) (nat_le s p) h (and_parts (nat_le 0 s) (nat_le s p) i).1))))))
 
 simple_real : (k : Class) → Real (kind_of k)
 simple_real c.IntType = refl

@@ -33,7 +33,7 @@ use Rattle.join_lowering.proofs.Nodes.{columns-Abs, columns-Length}
 use Rattle.physical_plan.proofs.Everywhere.{both_true}
 use Rattle.binder_laws.proofs.Holding.{Holds, after, whatever, where_some, weaker, Every, every_split}
 use Rattle.binder_laws.proofs.Readings.{Typing, ArmReads, given_reads, of_kind_reads, unary_reads, binary_reads, coalesced_reads, chosen_reads, column_reads, const_reads}
-use Rattle.binder_laws.proofs.Meanings.{number_reads_at}
+use Rattle.binder_laws.proofs.Meanings.{number_reads_at, text_reads_at}
 use Rattle.binder_laws.proofs.Selves.{nat_self, self_is, self_at, all_selves}
 use Rattle.binder_laws.proofs.Found.{place_bound, IsFound, HasCalls}
 
@@ -162,7 +162,7 @@ module _ (columns : Columns) (g : Groups) where
 
   node_step : (y : NodeAst-F KnownNode Known) → NodeMeans (roll-NodeAst (map-NodeAst KnownNode Known NodeAst ExprAst (λ k. k.0) (λ k. k.0) y))
   node_step (NodeAst-F.Number t) = subst NodeMeans (sym (node.rolls-Number t)) (λ e place q h. subst (Holds (Typing w)) (sym (node-Number columns e place over t)) (number_reads_at w place t))
-  node_step (NodeAst-F.Str t) = subst NodeMeans (sym (node.rolls-Str t)) (λ e place q h. subst (Holds (Typing w)) (sym (node-Str columns e place over t)) (const_reads w _ _))
+  node_step (NodeAst-F.Str t) = subst NodeMeans (sym (node.rolls-Str t)) (λ e place q h. subst (Holds (Typing w)) (sym (node-Str columns e place over t)) (text_reads_at w place t))
   node_step NodeAst-F.Null = subst NodeMeans (sym node.rolls-Null) (λ e place q h. subst (Holds (Typing w)) (sym (node-Null columns e place over)) tt)
   node_step (NodeAst-F.Truth b) = subst NodeMeans (sym (node.rolls-Truth b)) (λ e place q h. subst (Holds (Typing w)) (sym (node-Truth columns e place over b)) (const_reads w _ _))
   node_step (NodeAst-F.Name alias name) = subst NodeMeans (sym (node.rolls-Name alias name)) (λ e place q h. subst (Holds (Typing w)) (sym (node-Name columns e place over alias name))

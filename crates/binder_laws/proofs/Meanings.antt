@@ -1,6 +1,9 @@
 -- The meaning of an expression over columns names columns below their number.
 use Rattle.std.proofs.Common.{ℕ, suc, ◌≡◌, ◌+◌, ◌≤◌, refl, sym, subst, Bool, true, false, Option, Some, None, Ok, List, [], ◌∷◌, map, length, arith}
+use Rattle.std.specs.Prelude.{not}
+use Rattle.std.specs.Str.{is_utf8}
 use Rattle.std.proofs.lemmas.Bool.{lt-ltb}
+use Rattle.dfx_value.specs.declared.value.Value.TheVariants as value
 use Rattle.scalar_exprs.specs.declared.expr.Expr.TheVariants as expr
 use Rattle.scalar_exprs.specs.Kinds.{when_number, length_kind}
 use Rattle.dfx_value.specs.declared.kind.Kind.TheVariants as kind
@@ -20,11 +23,11 @@ use Rattle.typed_exprs.specs.declared.typed.Unary.TheVariants as operator
 use Rattle.dfx_value.specs.declared.op.Op.{Op}
 use Rattle.typed_exprs.specs.Literals.{literal}
 use Rattle.typed_exprs.specs.declared.refusal.Why.TheVariants as why
-use Rattle.typed_exprs.specs.Answer.{◌>>=◌, or_refuse}
+use Rattle.typed_exprs.specs.Answer.{◌>>=◌, or_refuse, refuse_if}
 use Rattle.typed_exprs.specs.Case.{chosen}
 use Rattle.typed_exprs.specs.Scopes.{Columns, numbers_from, with_if, numbers, is_named, is_unknown, the_one, column_of}
 use Rattle.typed_exprs.specs.Typed.{settled, unary, binary}
-use Rattle.expr_binder.specs.Meaning.{meaning, of_node, place_of, meanings, arm_meaning, arms_meaning, other_meaning, operands_over, single, applied, applied_to_one, call_meaning, case_meaning, column, kind_of_column, number, unary_meaning, binary_meaning}
+use Rattle.expr_binder.specs.Meaning.{meaning, of_node, place_of, meanings, arm_meaning, arms_meaning, other_meaning, operands_over, single, applied, applied_to_one, call_meaning, case_meaning, column, kind_of_column, number, text, unary_meaning, binary_meaning}
 use Rattle.expr_binder.proofs.MeaningSteps.{meaning_is, node-Number, node-Str, node-Null, node-Truth, node-Name, node-Call, node-CountAll, node-Not, node-Neg, node-IsNull, node-Binary, node-Case, node-Cast}
 use Rattle.join_lowering.proofs.Nodes.{columns-Abs, columns-Length}
 use Rattle.physical_plan.proofs.Everywhere.{both_true}
@@ -55,6 +58,12 @@ named_below columns place alias name =
 
 pub number_reads_at : (w place : ℕ) (t : List ℕ) → Holds (Typing w) (number place (literal t))
 number_reads_at w place t = whatever (Typing w) (or_refuse why.Unsupported place (literal t)) (λ c. Ok (typed.Of (expr.Const c.0 c.1) c.1)) (λ c. const_reads w c.0 c.1)
+
+pub text_reads_at : (w place : ℕ) (t : List ℕ) → Holds (Typing w) (text place t)
+text_reads_at w place t = go (is_utf8 t) where
+  go : (b : Bool) → Holds (Typing w) (refuse_if (not b) why.Unsupported place (Ok (typed.Of (expr.Const (value.Text t) kind.Text) kind.Text)))
+  go true = const_reads w (value.Text t) kind.Text
+  go false = tt
 
 module _ (columns : Columns) where
   abbrev w : ℕ
@@ -161,7 +170,7 @@ module _ (columns : Columns) where
 
   node_step : (y : NodeAst-F KnownNode Known) → NodeMeans (roll-NodeAst (map-NodeAst KnownNode Known NodeAst ExprAst (λ k. k.0) (λ k. k.0) y))
   node_step (NodeAst-F.Number t) = subst NodeMeans (sym (node.rolls-Number t)) (λ e place. subst (Holds (Typing w)) (sym (node-Number columns e place None t)) (number_reads_at w place t))
-  node_step (NodeAst-F.Str t) = subst NodeMeans (sym (node.rolls-Str t)) (λ e place. subst (Holds (Typing w)) (sym (node-Str columns e place None t)) (const_reads w _ _))
+  node_step (NodeAst-F.Str t) = subst NodeMeans (sym (node.rolls-Str t)) (λ e place. subst (Holds (Typing w)) (sym (node-Str columns e place None t)) (text_reads_at w place t))
   node_step NodeAst-F.Null = subst NodeMeans (sym node.rolls-Null) (λ e place. subst (Holds (Typing w)) (sym (node-Null columns e place None)) tt)
   node_step (NodeAst-F.Truth b) = subst NodeMeans (sym (node.rolls-Truth b)) (λ e place. subst (Holds (Typing w)) (sym (node-Truth columns e place None b)) (const_reads w _ _))
   node_step (NodeAst-F.Name alias name) = subst NodeMeans (sym (node.rolls-Name alias name)) (λ e place. subst (Holds (Typing w)) (sym (node-Name columns e place None alias name))

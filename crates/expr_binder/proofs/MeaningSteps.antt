@@ -55,7 +55,7 @@ module _ (columns : Columns) (e : ExprAst) (place : ℕ) (over : Over) where
   pub node-Number : (t : List ℕ) → of_node columns (node.Number t) e place over ≡ number place (literal t)
   node-Number t = at_level columns (node.Number t) (NodeAst-F.Number t) (node.rolls-Number t) e place over
 
-  pub node-Str : (t : List ℕ) → of_node columns (node.Str t) e place over ≡ Ok (text t)
+  pub node-Str : (t : List ℕ) → of_node columns (node.Str t) e place over ≡ text place t
   node-Str t = at_level columns (node.Str t) (NodeAst-F.Str t) (node.rolls-Str t) e place over
 
   pub node-Null : of_node columns node.Null e place over ≡ Ok typed.Null

@@ -1,5 +1,6 @@
 -- Meaning: the expression over columns that a tree is, or the first refusal, operands before their operator and from the left.
-use Rattle.std.specs.Prelude.{ℕ, ◌+◌, Bool, Option, Some, None, List, [], ◌∷◌, length, slice_get, Ok, map}
+use Rattle.std.specs.Prelude.{ℕ, ◌+◌, Bool, not, Option, Some, None, List, [], ◌∷◌, length, slice_get, Ok, map}
+use Rattle.std.specs.Str.{is_utf8}
 use Rattle.dfx_value.specs.declared.kind.Kind.{Kind}
 use Rattle.dfx_value.specs.declared.kind.Kind.TheVariants as kind
 use Rattle.dfx_value.specs.declared.op.AggCall.{AggCall}
@@ -23,7 +24,7 @@ use Rattle.typed_exprs.specs.declared.typed.Typed.{Typed}
 use Rattle.typed_exprs.specs.declared.typed.Typed.TheVariants as typed
 use Rattle.typed_exprs.specs.declared.typed.Unary.{Unary}
 use Rattle.typed_exprs.specs.declared.typed.Unary.TheVariants as operator
-use Rattle.typed_exprs.specs.Answer.{Answer, ◌>>=◌, refuse, or_refuse}
+use Rattle.typed_exprs.specs.Answer.{Answer, ◌>>=◌, refuse, or_refuse, refuse_if}
 use Rattle.typed_exprs.specs.Case.{chosen}
 use Rattle.expr_binder.specs.Groups.{Groups, Over}
 use Rattle.typed_exprs.specs.Literals.{literal}
@@ -149,15 +150,16 @@ called columns over e place f parts = senses (operands_over f over) parts >>= ap
 abbrev pub number : ℕ → Option (Value × Kind) → Answer Typed
 number place constant = or_refuse why.Unsupported place constant >>= λ c. Ok (typed.Of (expr.Const c.0 c.1) c.1)
 
-abbrev pub text : List ℕ → Typed
-text t = typed.Of (expr.Const (value.Text t) kind.Text) kind.Text
+-- a text is UTF-8, as that of each script is; other bytes are none
+abbrev pub text : ℕ → List ℕ → Answer Typed
+text place t = refuse_if (not (is_utf8 t)) why.Unsupported place (Ok (typed.Of (expr.Const (value.Text t) kind.Text) kind.Text))
 
 abbrev pub truth : Bool → Typed
 truth b = typed.Of (expr.Const (value.Bool b) kind.Bool) kind.Bool
 
 abbrev pub of_layer : Columns → Over → ExprAst → ℕ → NodeAst-F (NodeAst × (ExprAst → ℕ → Sense)) Part → Answer Typed
 of_layer columns over e place (NodeAst-F.Number digits) = number place (literal digits)
-of_layer columns over e place (NodeAst-F.Str string) = Ok (text string)
+of_layer columns over e place (NodeAst-F.Str string) = text place string
 of_layer columns over e place NodeAst-F.Null = Ok typed.Null
 of_layer columns over e place (NodeAst-F.Truth b) = Ok (truth b)
 of_layer columns over e place (NodeAst-F.Name alias name) = named columns over place (column_of columns place alias name)

@@ -162,8 +162,9 @@ fn number(alloc: Global, place: u32, text: &Text) -> Result<Typed, Unbound>
     }
 }
 
-fn text(alloc: Global, text: &Text) -> Result<Typed, NoMemory>
-    ensures { IfOk result (λ t. t ≡ spec.text text.now) }
+#[tactic(auto, using(dfx_value::proofs::ParseLemmas::utf8_tests))]
+fn text(alloc: Global, place: u32, text: &Text) -> Result<Typed, NoMemory>
+    ensures { IfOk result (λ t. Ok t ≡ spec.text place text.now) }
 {
     let copy = text.copy(alloc)?;
     Ok(Typed::Of(Expr::Const(Value::Text(copy), Kind::Text), Kind::Text))
@@ -316,7 +317,7 @@ fn bind_node(
     let place = expr.place;
     match &expr.node {
         NodeAst::Number(digits) => number(alloc, place, digits),
-        NodeAst::Str(string) => Ok(text(alloc, string)?),
+        NodeAst::Str(string) => Ok(text(alloc, place, string)?),
         NodeAst::Null => Ok(Typed::Null),
         NodeAst::Truth(value) => Ok(truth(*value)),
         NodeAst::Name(alias, name) => named(columns, over, place, alias, name),

@@ -1,13 +1,12 @@
 -- What the fields of CSV files write is of their columns' kinds.
-use Rattle.std.specs.Prelude.{option_and_then, unsigned_abs, ⊤}
+use Rattle.std.specs.Prelude.{option_and_then, ⊤}
 use Rattle.std.specs.Str.{is_utf8}
-use Rattle.std.proofs.Common.{◌≡◌, refl, ℕ, zero, suc, ◌+◌, ◌-◌, ◌*◌, ◌^◌, ℤ, Bool, true, false, ◌&&◌, cond, ltb, eqb, eq-eqb, eqb-true, Option, Some, None, List, [], ◌∷◌, length, take, drop, Result, Ok, Err, subst, ap, sym, ◌∙◌, inl, inr}
+use Rattle.std.proofs.Common.{◌≡◌, refl, ℕ, ◌+◌, ℤ, Bool, true, false, cond, eqb, eqb-true, Option, Some, None, List, [], ◌∷◌, length, Result, Ok, Err, subst, sym, inl, inr}
 use Rattle.std.proofs.lemmas.Bool.{and_from, cases_Bool}
 use Rattle.dfx_value.specs.Checked.{◌>>=◌}
-use Rattle.dfx_value.specs.Decimal.{at_scale}
 use Rattle.dfx_value.specs.Kinds.{is_of, are_of}
 use Rattle.dfx_value.specs.Number.{Number}
-use Rattle.dfx_value.specs.Parse.{is_empty, filled, parsed, dec_of, dec_parts, if_below, digits, signed, negative, whole, fraction, unsigned, all_zeros, bool_of, int_of}
+use Rattle.dfx_value.specs.Parse.{filled, parsed, dec_of, bool_of, int_of}
 use Rattle.dfx_value.specs.declared.kind.Kind.{Kind}
 use Rattle.dfx_value.specs.declared.kind.Kind.TheVariants as kind
 use Rattle.dfx_value.specs.declared.value.Value.{Value}
@@ -15,47 +14,7 @@ use Rattle.dfx_value.specs.declared.value.Value.TheVariants as value
 use Rattle.csv_source.specs.declared.refused.CsvRefused.{CsvRefused}
 use Rattle.csv_source.specs.declared.refused.CsvRefused.TheVariants as refused
 use Rattle.csv_source.specs.CsvItems.{Item, value_or, field_value, cells_from, record_item}
-use Rattle.scalar_exprs.proofs.ValueKinds.{null_is_of}
-
--- ---- decimals
-
-abbrev NumberFits : ℕ → ℕ → Option Number → Type 0
-NumberFits p s (Some d) = is_of (kind.Dec p s) (value.Dec d) ≡ true
-NumberFits p s None = ⊤
-
-signed_magnitude : (b : Bool) (n : ℕ) → unsigned_abs (signed b n) ≡ n
-signed_magnitude true zero = refl
-signed_magnitude true (suc n) = refl
-signed_magnitude false n = refl
-
-below_fits : (p s : ℕ) (minus : Bool) (n : ℕ) → NumberFits p s (if_below p s minus n)
-below_fits p s minus n = elim (cases_Bool (ltb n (10 ^ p))) [
-  | inl fits ↦ subst (λ b. NumberFits p s (cond b (Some (at_scale (signed minus n) s)) None)) (sym fits) (and_from (eqb s s) (ltb (unsigned_abs (signed minus n)) (10 ^ p)) (eq-eqb s s refl) (ap (λ m. ltb m (10 ^ p)) (signed_magnitude minus n) ∙ fits))
-  | inr other ↦ subst (λ b. NumberFits p s (cond b (Some (at_scale (signed minus n) s)) None)) (sym other) tt
-]
-
-then_fits : (p s : ℕ) (f : ℕ → Option Number) (o : Option ℕ) → ((n : ℕ) → NumberFits p s (f n)) → NumberFits p s (option_and_then f o)
-then_fits p s f None h = tt
-then_fits p s f (Some n) h = h n
-
-where_fits : (p s : ℕ) (b : Bool) (o : Option Number) → NumberFits p s o → NumberFits p s (cond b o None)
-where_fits p s true o h = h
-where_fits p s false o h = tt
-
-unless_fits : (p s : ℕ) (b : Bool) (o : Option Number) → NumberFits p s o → NumberFits p s (cond b None o)
-unless_fits p s true o h = tt
-unless_fits p s false o h = h
-
-parts_fit : (p s : ℕ) (b : Bool) (w f : List ℕ) → NumberFits p s (dec_parts p s b w f)
-parts_fit p s b w f =
-    let last = λ (n : ℕ). option_and_then (λ m. if_below p s b (m * 10 ^ (s - length f))) (digits n (take s f)) in
-    unless_fits p s (is_empty w && is_empty f) (cond (all_zeros (drop s f)) (option_and_then last (digits 0 w)) None)
-    (where_fits p s (all_zeros (drop s f)) (option_and_then last (digits 0 w))
-    (then_fits p s last (digits 0 w) (λ n. then_fits p s (λ m. if_below p s b (m * 10 ^ (s - length f))) (digits n (take s f)) (λ m. below_fits p s b (m * 10 ^ (s - length f))))))
-
-decimal_fits : (p s : ℕ) (t : List ℕ) → NumberFits p s (dec_of p s t)
-unfolding dec_of
-decimal_fits p s t = parts_fit p s (negative t) (whole (unsigned t)) (fraction (unsigned t))
+use Rattle.scalar_exprs.proofs.ValueKinds.{null_is_of, FitsNumber, dec_fits, FitsInt, int_fits}
 
 -- ---- fields
 
@@ -68,18 +27,18 @@ filled_fits kind.Bool t = go (bool_of t) where
   go : (o : Option Bool) → ValueFits kind.Bool (option_and_then (λ b. Some (value.Bool b)) o)
   go (Some b) = refl
   go None = tt
-filled_fits kind.Int t = go (int_of t) where
-  go : (o : Option ℤ) → ValueFits kind.Int (option_and_then (λ n. Some (value.Int n)) o)
-  go (Some n) = refl
-  go None = tt
-filled_fits (kind.Dec p s) t = go (dec_of p s t) (decimal_fits p s t) where
-  go : (o : Option Number) → NumberFits p s o → ValueFits (kind.Dec p s) (option_and_then (λ d. Some (value.Dec d)) o)
+filled_fits kind.Int t = go (int_of t) (int_fits t) where
+  go : (o : Option ℤ) → FitsInt o → ValueFits kind.Int (option_and_then (λ n. Some (value.Int n)) o)
+  go (Some n) h = h
+  go None h = tt
+filled_fits (kind.Dec p s) t = go (dec_of p s t) (dec_fits p s t) where
+  go : (o : Option Number) → FitsNumber p s o → ValueFits (kind.Dec p s) (option_and_then (λ d. Some (value.Dec d)) o)
   go (Some d) h = h
   go None h = tt
-filled_fits kind.Text t = go (is_utf8 t) where
-  go : (b : Bool) → ValueFits kind.Text (cond b (Some (value.Text t)) None)
-  go true = refl
-  go false = tt
+filled_fits kind.Text t = go (is_utf8 t) refl where
+  go : (b : Bool) → is_utf8 t ≡ b → ValueFits kind.Text (cond b (Some (value.Text t)) None)
+  go true e = e
+  go false e = tt
 
 pub parsed_fits : (k : Kind) (t : List ℕ) → ValueFits k (parsed k t)
 parsed_fits k [] = null_is_of k

@@ -2,10 +2,11 @@
 use Rattle.std.specs.Prelude.{slice_get, is_some, unsigned_abs, ⊤}
 use Rattle.std.specs.List.{list_all}
 use Rattle.std.specs.Ordering.{is_lt, is_gt}
-use Rattle.std.proofs.Common.{◌≡◌, refl, ℕ, zero, suc, ◌-◌, ◌*◌, ◌^◌, ◌<◌, ℤ, pos, negsuc, ◌-ℤ◌, Bool, true, false, not, ◌||◌, cond, ltb, eqb, eq-eqb, Option, Some, None, List, [], ◌∷◌, map, length, Result, Ok, Err, subst, sym, inl, inr, arith}
+use Rattle.std.proofs.Common.{◌≡◌, refl, ℕ, zero, suc, ◌-◌, ◌^◌, ◌<◌, ℤ, pos, negsuc, ◌-ℤ◌, ◌*ℤ◌, Bool, true, false, not, ◌||◌, cond, ltb, eqb, eq-eqb, Option, Some, None, List, [], ◌∷◌, map, length, Result, Ok, Err, subst, sym, inl, inr, arith}
 use Rattle.std.proofs.lemmas.Bool.{and_parts, and_from, cases_Bool, lt-ltb, ltb-true, false≢true}
 use Rattle.dfx_value.specs.Checked.{◌>>=◌}
-use Rattle.dfx_value.specs.Decimal.{fit, mean, nearest, signed_like, at_scale}
+use Rattle.dfx_value.specs.Decimal.{fit, mean, half_away, at_scale}
+use Rattle.dfx_value.specs.Number.{Number}
 use Rattle.dfx_value.specs.Kinds.{is_of, are_of}
 use Rattle.dfx_value.specs.KindedRows.{all_are}
 use Rattle.dfx_value.specs.Order.{value_cmp}
@@ -83,10 +84,10 @@ keys_fit columns row cells (c ∷ cs) p =
 -- ---- aggregates
 
 counted_fits : (n : ℕ) → Fits kind.Int (counted n)
-counted_fits n = go (ltb n (2 ^ 63)) where
-  go : (b : Bool) → Fits kind.Int (cond b (Ok (value.Int (pos n))) (Err Overflow))
-  go true = refl
-  go false = tt
+counted_fits n = go (ltb n (2 ^ 63)) refl where
+  go : (b : Bool) → ltb n (2 ^ 63) ≡ b → Fits kind.Int (cond b (Ok (value.Int (pos n))) (Err Overflow))
+  go true e = e
+  go false e = tt
 
 -- the difference of two magnitudes is no greater than the greater
 difference_below : (a b n : ℕ) → a < n → b < n → unsigned_abs (pos a -ℤ pos b) < n
@@ -115,12 +116,12 @@ total_fits s vs = go (ltb (length vs) (2 ^ 63)) (ltb (gains vs) (10 ^ 38)) (ltb 
   go true false c p q = tt
   go true true false p q = tt
 
-mean_fits : (s shift n : ℕ) (vs : List Value) → Fits (widest s) (cond (is_over vs) (Err Overflow) (decimal (mean (total vs) shift n s)))
+mean_fits : (s n : ℕ) (d : Number) (vs : List Value) → Fits (widest s) (cond (is_over vs) (Err Overflow) (decimal (mean d n s)))
 unfolding mean
-mean_fits s shift n vs = go (is_over vs) where
-  go : (b : Bool) → Fits (widest s) (cond b (Err Overflow) (decimal (fit (signed_like (total vs) (nearest (unsigned_abs (total vs) * 10 ^ shift) n)) s)))
+mean_fits s n d vs = go (is_over vs) where
+  go : (b : Bool) → Fits (widest s) (cond b (Err Overflow) (decimal (fit (half_away (d.unscaled *ℤ pos (10 ^ (s - d.scale))) n) s)))
   go true = tt
-  go false = fit_fits (signed_like (total vs) (nearest (unsigned_abs (total vs) * 10 ^ shift) n)) s
+  go false = fit_fits (half_away (d.unscaled *ℤ pos (10 ^ (s - d.scale))) n) s
 
 or_null_fits : (k : Kind) (vs : List Value) (o : Outcome) → Fits k o → Fits k (or_null vs o)
 or_null_fits k [] o p = null_is_of k
@@ -132,8 +133,8 @@ summed_fits (Some (kind.Dec p s)) k vs e = let same : widest s ≡ k = (cc) in s
 summed_fits _ k vs e = cc
 
 averaged_fits : (o : Option Kind) (k : Kind) (vs : List Value) → mean_kind o ≡ Some k → Fits k (averaged (scale_of o) vs)
-averaged_fits (Some kind.Int) k vs e = let same : widest 4 ≡ k = (cc) in subst (λ j. Fits j (averaged 0 vs)) same (or_null_fits (widest 4) vs _ (mean_fits 4 4 (length vs) vs))
-averaged_fits (Some (kind.Dec p s)) k vs e = let same : widest (mean_scale s) ≡ k = (cc) in subst (λ j. Fits j (averaged s vs)) same (or_null_fits (widest (mean_scale s)) vs _ (mean_fits (mean_scale s) (mean_scale s - s) (length vs) vs))
+averaged_fits (Some kind.Int) k vs e = let same : widest 4 ≡ k = (cc) in subst (λ j. Fits j (averaged 0 vs)) same (or_null_fits (widest 4) vs _ (mean_fits 4 (length vs) (at_scale (total vs) 0) vs))
+averaged_fits (Some (kind.Dec p s)) k vs e = let same : widest (mean_scale s) ≡ k = (cc) in subst (λ j. Fits j (averaged s vs)) same (or_null_fits (widest (mean_scale s)) vs _ (mean_fits (mean_scale s) (length vs) (at_scale (total vs) s) vs))
 averaged_fits _ k vs e = cc
 
 -- one of two values

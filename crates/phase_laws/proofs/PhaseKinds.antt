@@ -16,7 +16,7 @@ use Rattle.scalar_exprs.specs.Agg.{argument, present, gains, losses, least, grea
 use Rattle.scalar_exprs.specs.Groups.{key_list, firsts}
 use Rattle.logical_plan.specs.Body.{kind_or_text, key_kinds}
 use Rattle.logical_plan.specs.Items.{Cells, Item, rows, faults}
-use Rattle.phase_laws.specs.States.{state_of, capped, past, within, cells_of, sum_cells}
+use Rattle.phase_laws.specs.States.{Totals, state_of, capped, past, within, cells_of, count_cells, sum_cells}
 use Rattle.phase_laws.specs.States.State.{Sums}
 use Rattle.phase_laws.specs.Phases.{states_of, phase_row, phase_rows, phase, state_kinds, states_kinds, phase_kinds}
 use Rattle.phase_laws.proofs.Bags.{Each, each-filter}
@@ -27,15 +27,21 @@ use Rattle.content_laws.proofs.Items.{rows_both}
 use Rattle.phase_laws.proofs.Items.{each_pass}
 use Rattle.phase_laws.proofs.Distinct.{all_from}
 
-amounts_fit : (n p m : ℕ) → (ltb (capped n p m false).plus (10 ^ 38) ≡ true) × (ltb (capped n p m false).minus (10 ^ 38) ≡ true)
+-- a state is within its columns' kinds
+record IsWithin (t : Totals) : Type 0 where
+  count : ltb t.count (2 ^ 63) ≡ true
+  plus : ltb t.plus (10 ^ 38) ≡ true
+  minus : ltb t.minus (10 ^ 38) ≡ true
+
+capped_within : (n p m : ℕ) → IsWithin (capped n p m false)
 unfolding capped
-amounts_fit n p m = by (ltb n (2 ^ 63)) (ltb p (10 ^ 38)) (ltb m (10 ^ 38)) refl refl
+capped_within n p m = by (ltb n (2 ^ 63)) (ltb p (10 ^ 38)) (ltb m (10 ^ 38)) refl refl refl
   where
-    by : (x y z : Bool) → ltb p (10 ^ 38) ≡ y → ltb m (10 ^ 38) ≡ z → (ltb (cond (not x || not y || not z) past (within n p m)).plus (10 ^ 38) ≡ true) × (ltb (cond (not x || not y || not z) past (within n p m)).minus (10 ^ 38) ≡ true)
-    by true true true e f = (e, f)
-    by false y z e f = (refl, refl)
-    by true false z e f = (refl, refl)
-    by true true false e f = (refl, refl)
+    by : (x y z : Bool) → ltb n (2 ^ 63) ≡ x → ltb p (10 ^ 38) ≡ y → ltb m (10 ^ 38) ≡ z → IsWithin (cond (not x || not y || not z) past (within n p m))
+    by true true true d e f = record { count = d; plus = e; minus = f }
+    by false y z d e f = record { count = refl; plus = refl; minus = refl }
+    by true false z d e f = record { count = refl; plus = refl; minus = refl }
+    by true true false d e f = record { count = refl; plus = refl; minus = refl }
 
 text_of : (o : Option Kind) (v : Value) → of_column o v ≡ true → is_of (kind_or_text o) v ≡ true
 text_of (Some k) v e = e
@@ -45,13 +51,18 @@ text_of None (value.Int n) e = absurd (true≢false (sym e))
 text_of None (value.Dec d) e = absurd (true≢false (sym e))
 text_of None (value.Text t) e = absurd (true≢false (sym e))
 
+count_fits : (n : ℕ) (ks : List Kind) (vs : Cells) → are_of ks vs ≡ true → are_of (kind.Int ∷ kind.Bool ∷ ks) (count_cells (Sums (capped n 0 0 false)) ++ vs) ≡ true
+count_fits n ks vs h = and_from _ _ (capped_within n 0 0).count h
+
 sums_fit : (s n p m : ℕ) (ks : List Kind) (vs : Cells) → are_of ks vs ≡ true → are_of (kind.Int ∷ kind.Dec 38 s ∷ kind.Dec 38 s ∷ kind.Bool ∷ ks) (sum_cells s (Sums (capped n p m false)) ++ vs) ≡ true
-sums_fit s n p m ks vs h = and_from _ _ (and_from _ _ (eq-eqb s s refl) (amounts_fit n p m).0) (and_from _ _ (and_from _ _ (eq-eqb s s refl) (amounts_fit n p m).1) h)
+sums_fit s n p m ks vs h =
+    let w = capped_within n p m in
+    and_from _ _ w.count (and_from _ _ (and_from _ _ (eq-eqb s s refl) w.plus) (and_from _ _ (and_from _ _ (eq-eqb s s refl) w.minus) h))
 
 state_fits : (c : AggCall) (kinds : List Kind) (group : List Cells) (ks : List Kind) (vs : Cells) → Each (are_of kinds) group → are_of ks vs ≡ true
     → are_of (state_kinds c (argument_kind c kinds) ++ ks) (cells_of c (argument_kind c kinds) (state_of c (map (argument c) group)) ++ vs) ≡ true
-state_fits call.CountAll kinds group ks vs g h = h
-state_fits (call.Count c) kinds group ks vs g h = h
+state_fits call.CountAll kinds group ks vs g h = count_fits (length (map (argument call.CountAll) group)) ks vs h
+state_fits (call.Count c) kinds group ks vs g h = count_fits (length (present (map (argument (call.Count c)) group))) ks vs h
 state_fits (call.Sum c) kinds group ks vs g h = sums_fit (scale_of (slice_get kinds c)) (length (present (map (argument (call.Sum c)) group))) (gains (present (map (argument (call.Sum c)) group))) (losses (present (map (argument (call.Sum c)) group))) ks vs h
 state_fits (call.Avg c) kinds group ks vs g h = sums_fit (scale_of (slice_get kinds c)) (length (present (map (argument (call.Avg c)) group))) (gains (present (map (argument (call.Avg c)) group))) (losses (present (map (argument (call.Avg c)) group))) ks vs h
 state_fits (call.Min c) kinds group ks vs g h = and_from _ _ (text_of (slice_get kinds c) _ (best_column least kinds c (least_fits (of_column (slice_get kinds c))) group g)) h

@@ -434,7 +434,7 @@ mean_finished s (v ∷ vs) = by (is_over (v ∷ vs))
     some : ltb 0 (suc (length vs)) ≡ true
     some = lt-ltb 0 (suc (length vs)) (omega arith)
 
-    by : (b : Bool) → cond b (Err Overflow) (decimal (mean (total (v ∷ vs)) (mean_scale s - s) (suc (length vs)) (mean_scale s))) ≡ mean_answer s (Sums (cond b past (within (suc (length vs)) (gains (v ∷ vs)) (losses (v ∷ vs)))))
+    by : (b : Bool) → cond b (Err Overflow) (decimal (mean (at_scale (total (v ∷ vs)) s) (suc (length vs)) (mean_scale s))) ≡ mean_answer s (Sums (cond b past (within (suc (length vs)) (gains (v ∷ vs)) (losses (v ∷ vs)))))
     by true = refl
     by false = rw some refl
 

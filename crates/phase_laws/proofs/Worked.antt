@@ -5,7 +5,7 @@ use Rattle.std.proofs.lemmas.List.Sums.{AllPass-from_list_all}
 use Rattle.dfx_value.specs.Kinds.{are_of}
 use Rattle.phase_laws.proofs.Items.{two_phases}
 use Rattle.dfx_value.specs.Order.{value_cmp}
-use Rattle.dfx_value.specs.Decimal.{units, at_scale, mean, fit, nearest}
+use Rattle.dfx_value.specs.Decimal.{units, at_scale, mean, half_away, fit, nearest}
 use Rattle.dfx_value.specs.declared.value.Value.{Value}
 use Rattle.dfx_value.specs.declared.value.Value.TheVariants.{Null, Bool, Int, Dec}
 use Rattle.dfx_value.specs.declared.kind.Kind.{Kind}
@@ -60,7 +60,7 @@ unfolding capped value_cmp units agg
 keyed = refl
 
 means : ended (0 ∷ []) (call.Avg 1 ∷ []) kinds (flat_map (phase (0 ∷ []) (call.Avg 1 ∷ []) kinds) segments) ≡ aggregated (0 ∷ []) (call.Avg 1 ∷ []) kinds (concat segments)
-unfolding capped value_cmp units mean fit nearest agg
+unfolding capped value_cmp units mean half_away fit nearest agg
 means = refl
 
 -- without keys: the fault alone; no rows: one item

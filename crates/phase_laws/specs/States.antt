@@ -1,5 +1,5 @@
 -- Meaning: what is kept of the values of an aggregate, and the cells that hold it.
-use Rattle.std.specs.Prelude.{ℕ, ◌+◌, ◌-◌, ◌^◌, pos, unsigned_abs, ◌-ℤ◌, nat_lt, not, Bool, true, false, ◌||◌, Option, List, [], ◌∷◌, length, fold, Ok, Err, if◌then◌else◌}
+use Rattle.std.specs.Prelude.{ℕ, ◌+◌, ◌^◌, pos, unsigned_abs, ◌-ℤ◌, nat_lt, not, Bool, true, false, ◌||◌, Option, List, [], ◌∷◌, length, fold, Ok, Err, if◌then◌else◌}
 use Rattle.dfx_value.specs.Decimal.{at_scale, mean}
 use Rattle.dfx_value.specs.Rows.{cell}
 use Rattle.dfx_value.specs.declared.kind.Kind.{Kind}
@@ -159,7 +159,7 @@ sum_answer s (Best v) = Ok v
 abbrev pub mean_answer : ℕ → State → Outcome
 mean_answer s (Sums t) =
     or_over t.over (unless_none t.count
-    (decimal (mean (pos t.plus -ℤ pos t.minus) (mean_scale s - s) t.count (mean_scale s))))
+    (decimal (mean (at_scale (pos t.plus -ℤ pos t.minus) s) t.count (mean_scale s))))
 mean_answer s (Best v) = Ok v
 
 -- the answer of a call, whose argument has this kind

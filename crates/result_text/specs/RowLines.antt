@@ -4,7 +4,11 @@ use Rattle.csv.specs.Records.{partial_of}
 use Rattle.result_text.specs.Lines.{Stands}
 use Rattle.result_text.specs.declared.row_lines.RowLines.{RowLines}
 
--- the lines so far are this text, and the fields of the next line are whole
+-- the lines so far are this text
+abbrev pub HasLines : RowLines → List ℕ → Type 0
+HasLines l text = Stands (λ v. Some v.items) l.writer text
+
+-- the same, and the fields of the next line are whole
 pub record Holds (l : RowLines) (text : List ℕ) : Type 0 where
-  pub lines : Stands (λ v. Some v.items) l.writer text
+  pub lines : HasLines l text
   pub whole : partial_of l.record ≡ []

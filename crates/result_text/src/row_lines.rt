@@ -1,11 +1,11 @@
 //! The lines of rows, made field by field.
 
-ghost use Rattle.std.specs.Prelude.{◌≡◌, ◌++◌, ℕ, List, [], ◌∷◌, map, IfOk, OnOk};
+ghost use Rattle.std.specs.Prelude.{◌≡◌, ◌++◌, ℕ, List, [], ◌∷◌, map, IfOk, OnOk, OnErr};
 ghost use Rattle.csv.specs.Records.{fields_of};
 ghost use Rattle.csv.specs.Writing.{row_text, default_writer};
 ghost use Rattle.dfx_value.specs.Print.{printed};
 ghost use Rattle.result_text.specs.AnswerText.{row_line};
-ghost use Rattle.result_text.specs.RowLines.{Holds};
+ghost use Rattle.result_text.specs.RowLines.{HasLines, Holds};
 
 use crate::lines::push_line;
 use crate::text::{finished, fresh};
@@ -37,6 +37,9 @@ impl RowLines {
     pub fn begin(&mut self)
         ensures text { (text : List ℕ) → Holds self.old text → Holds self.new text }
         ensures fields { fields_of self.new.record ≡ [] }
+
+        // Also after a call that had no memory for a field.
+        ensures again { (text : List ℕ) → HasLines self.old text → Holds self.new text }
     {
         self.record.clear();
     }
@@ -45,6 +48,10 @@ impl RowLines {
     pub fn push(&mut self, value: &Value) -> Result<(), NoMemory>
         ensures text { (text : List ℕ) → Holds self.old text → OnOk result (Holds self.new text) }
         ensures fields { (text : List ℕ) → Holds self.old text → OnOk result (fields_of self.new.record ≡ fields_of self.old.record ++ printed value.now ∷ []) }
+
+        // For want of memory the lines so far and the fields before this one stay.
+        ensures err { (text : List ℕ) → HasLines self.old text → OnErr result (HasLines self.new text) }
+        ensures kept { OnErr result (fields_of self.new.record ≡ fields_of self.old.record) }
     {
         match value {
             Value::Text(text) => self.record.push_field(text.bytes())?,

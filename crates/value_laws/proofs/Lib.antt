@@ -1,0 +1,2 @@
+mod Rounded
+mod ReadBack
