@@ -48,7 +48,10 @@ fn looks(rt: HostRuntime) -> Result<(), Fail> {
 fn shown(alloc: Global, column: &Column) -> Result<String, Fail> {
     let mut text = String::new(alloc);
     for at in 0..column.len() {
-        push_printed(&mut text, column.cell(at))?;
+        match column.cell(at) {
+            Cell::Dec(number) => push_printed(&mut text, Cell::Dec(number))?,
+            cell => push_printed(&mut text, cell)?,
+        }
         text.push(';')?;
     }
     Ok(text)
