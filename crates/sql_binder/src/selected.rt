@@ -1,3 +1,5 @@
+//! Bound selects.
+
 use dfx_value::{Kind, Seq, Text};
 use expr_binder::Column;
 use logical_plan::Logical;

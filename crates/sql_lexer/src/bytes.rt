@@ -1,3 +1,5 @@
+//! The bytes of a script, by what they may be part of.
+
 ghost use Rattle.std.specs.Prelude.{◌≡◌, ◌<◌, ◌≤◌, length, ◌⊎◌, IfSome};
 ghost use Rattle.sql_lexer.specs.Bytes as spec;
 ghost use Rattle.sql_lexer.specs.Cuts.{first_of, second_of};

@@ -1,3 +1,5 @@
+//! What a text begins with.
+
 ghost use Rattle.std.specs.Prelude.{◌≡◌, ◌<◌, ◌≤◌, ◌+◌, length, ◌⊎◌};
 ghost use Rattle.sql_lexer.specs.Cuts as spec;
 ghost use Rattle.sql_lexer.specs.Refusals.{Within};

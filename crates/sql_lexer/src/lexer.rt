@@ -1,3 +1,5 @@
+//! The tokens of a script.
+
 ghost use Rattle.std.specs.Prelude.{◌≡◌, ◌≢◌, ◌≤◌, ℕ, length, IfOk, All, Err};
 ghost use Rattle.std.specs.Str.{IsValidUpTo};
 ghost use Rattle.sql_lexer.specs.Tokens as spec;

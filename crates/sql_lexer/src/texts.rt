@@ -1,3 +1,5 @@
+//! The texts of tokens.
+
 ghost use Rattle.std.specs.Prelude.{◌≡◌, ◌<◌, ◌≤◌, ◌-◌, false, IfOk, IsUtf8, length, take, drop};
 ghost use Rattle.std.specs.Str.{str_to_ascii_lowercase};
 ghost use Rattle.sql_lexer.specs.Parts.{IsToken, bytes_of};

@@ -1,3 +1,5 @@
+//! Tokens, and what they are.
+
 /// What a token is.
 #[derive(Clone, Copy, Debug, Drop)]
 pub enum TokenKind {
