@@ -4,7 +4,7 @@ ghost use Rattle.std.specs.Prelude.{◌≡◌, ◌∷◌, [], true, IfOk};
 ghost use Rattle.dfx_value.specs.Kinds.{are_of};
 ghost use Rattle.dfx_value.specs.declared.kind.Kind.TheVariants as kind;
 
-use column_batch::{Batch, Builder, Column, Shared, push_printed};
+use column_batch::{Batch, Builder, Cell, Column, Shared, push_printed};
 use dfx_value::{Kind, Row, Text, Value};
 use std::alloc::Global;
 use std::test::Fail;
@@ -36,7 +36,10 @@ fn three(alloc: Global) -> Result<Batch, Fail>
 fn shown(alloc: Global, column: &Column) -> Result<String, Fail> {
     let mut text = String::new(alloc);
     for at in 0..column.len() {
-        push_printed(&mut text, column.cell(at))?;
+        match column.cell(at) {
+            Cell::Dec(number) => push_printed(&mut text, Cell::Dec(number))?,
+            cell => push_printed(&mut text, cell)?,
+        }
         text.push(';')?;
     }
     Ok(text)

@@ -3,8 +3,9 @@
 ghost use Rattle.std.specs.Prelude.{◌≡◌};
 
 use column_batch::{Cell, Column, compare, look, own, push_printed};
-use dfx_value::{Decimal, Kind, Value, value_text};
+use dfx_value::{Decimal, Kind, Text, Value, value_text};
 use std::alloc::Global;
+use std::cmp::Ordering;
 use std::process::Abort;
 use std::test::Fail;
 
@@ -16,29 +17,69 @@ fn dec(rt: &impl Abort, unscaled: i128, scale: u8) -> Decimal
     Decimal { unscaled, scale }
 }
 
+/// Values in their order.
+fn ascending(rt: &impl Abort, alloc: Global) -> Result<Vec<Value>, Fail> {
+    let texts = ["", "a", "é"];
+    let mut values = vec![in alloc;
+        Value::Null,
+        Value::Bool(false),
+        Value::Bool(true),
+        Value::Int(i64::MIN),
+        Value::Dec(dec(rt, -25, 1)),
+        Value::Dec(dec(rt, 5, 3)),
+        Value::Int(1),
+        Value::Dec(dec(rt, 1050, 2)),
+    ]?;
+    for text in texts {
+        values.push(Value::Text(Text::from_string(String::from_str(alloc, text)?)))?;
+    }
+    Ok(values)
+}
+
+/// The printed text of a value, by a look at it and by one at what is made of that.
+fn printed(alloc: Global, value: &Value) -> Result<String, Fail> {
+    let mut text = String::new(alloc);
+    match look(value) {
+        Cell::Dec(number) => push_printed(&mut text, Cell::Dec(number))?,
+        cell => push_printed(&mut text, cell)?,
+    }
+    text.push(';')?;
+    let again = match look(value) {
+        Cell::Dec(number) => own(alloc, Cell::Dec(number))?,
+        cell => own(alloc, cell)?,
+    };
+    text.push_str(value_text(alloc, &again)?.as_str())?;
+    Ok(text)
+}
+
 #[test]
 fn looks(rt: HostRuntime) -> Result<(), Fail> {
     let alloc = rt.alloc();
-    let ascending = [
-        (Cell::Null, ""),
-        (Cell::Bool(false), "false"),
-        (Cell::Bool(true), "true"),
-        (Cell::Int(i64::MIN), "-9223372036854775808"),
-        (Cell::Dec(dec(&rt, -25, 1)), "-2.5"),
-        (Cell::Dec(dec(&rt, 5, 3)), "0.005"),
-        (Cell::Int(1), "1"),
-        (Cell::Dec(dec(&rt, 1050, 2)), "10.50"),
-        (Cell::Text(""), ""),
-        (Cell::Text("a"), "a"),
-        (Cell::Text("é"), "é"),
-    ];
-    for (i, (left, text)) in ascending.iter().enumerate() {
-        let mut printed = String::new(alloc);
-        push_printed(&mut printed, *left)?;
-        assert_eq!(rt; printed.as_str(), *text);
-        let value = own(alloc, *left)?;
-        for (j, (right, _)) in ascending.iter().enumerate() {
-            assert_eq!(rt; compare(&look(&value), right), i.cmp(&j), "{i} and {j}");
+    let mut text = String::new(alloc);
+    for value in &ascending(&rt, alloc)? {
+        text.push_str(printed(alloc, value)?.as_str())?;
+        text.push('|')?;
+    }
+    let numbers = "-9223372036854775808;-9223372036854775808|-2.5;-2.5|0.005;0.005|1;1|10.50;10.50";
+    let wanted = format!(in alloc; ";|false;false|true;true|{numbers}|;|a;a|é;é|")?;
+    assert_eq!(rt; text.as_str(), wanted.as_str());
+    Ok(())
+}
+
+/// Whether a look at one value stands to one at another as these do.
+fn is_ordered(left: &Value, right: &Value, order: Ordering) -> bool {
+    match (look(left), look(right)) {
+        (Cell::Dec(a), b) => compare(&Cell::Dec(a), &b) == order,
+        (a, b) => compare(&a, &b) == order,
+    }
+}
+
+#[test]
+fn order(rt: HostRuntime) -> Result<(), Fail> {
+    let values = ascending(&rt, rt.alloc())?;
+    for (i, left) in values.iter().enumerate() {
+        for (j, right) in values.iter().enumerate() {
+            assert!(rt; is_ordered(left, right, i.cmp(&j)), "{i} and {j}");
         }
     }
     Ok(())
@@ -48,7 +89,10 @@ fn looks(rt: HostRuntime) -> Result<(), Fail> {
 fn shown(alloc: Global, column: &Column) -> Result<String, Fail> {
     let mut text = String::new(alloc);
     for at in 0..column.len() {
-        push_printed(&mut text, column.cell(at))?;
+        match column.cell(at) {
+            Cell::Dec(number) => push_printed(&mut text, Cell::Dec(number))?,
+            cell => push_printed(&mut text, cell)?,
+        }
         text.push(';')?;
     }
     Ok(text)
@@ -78,7 +122,7 @@ fn whole_numbers(rt: HostRuntime) -> Result<(), Fail> {
 }
 
 #[test]
-fn other_kinds(rt: HostRuntime) -> Result<(), Fail> {
+fn texts(rt: HostRuntime) -> Result<(), Fail> {
     let alloc = rt.alloc();
     let mut texts = Column::new(alloc, Kind::Text);
     texts.push_text("héé")?;
@@ -87,6 +131,12 @@ fn other_kinds(rt: HostRuntime) -> Result<(), Fail> {
     assert!(rt; texts.len() == 3);
     assert_eq!(rt; shown(alloc, &texts)?.as_str(), "héé;x;;");
     assert_eq!(rt; texts.size(0, 3), 54);
+    Ok(())
+}
+
+#[test]
+fn decimals(rt: HostRuntime) -> Result<(), Fail> {
+    let alloc = rt.alloc();
     let mut decimals = Column::new(
         alloc,
         Kind::Dec {
@@ -97,6 +147,12 @@ fn other_kinds(rt: HostRuntime) -> Result<(), Fail> {
     decimals.push_decimal(dec(&rt, -25, 1))?;
     decimals.push_copy(&Value::Dec(dec(&rt, 999, 1)))?;
     assert_eq!(rt; shown(alloc, &decimals)?.as_str(), "-2.5;99.9;");
+    Ok(())
+}
+
+#[test]
+fn truths(rt: HostRuntime) -> Result<(), Fail> {
+    let alloc = rt.alloc();
     let mut truths = Column::of_truths(vec![in alloc; true]?, Vec::new(alloc));
     assert!(rt; truths.len() == 1);
     truths.push_truth(false)?;
@@ -104,10 +160,6 @@ fn other_kinds(rt: HostRuntime) -> Result<(), Fail> {
     truths.push_value(Value::Null)?;
     assert!(rt; truths.len() == 3);
     assert_eq!(rt; shown(alloc, &truths)?.as_str(), "true;false;;");
-    assert_eq!(rt;
-        value_text(alloc, &truths.value(alloc, 1)?)?.as_str(),
-        "false"
-    );
     let (items, nulls) = truths.truths(0, 2);
     assert_eq!(rt; items, [true, false].as_slice());
     assert!(rt; !nulls.contains(&true));
