@@ -1,4 +1,4 @@
-//! That needs are tested with ample memory. proofs/Needs.antt has worked examples of what satisfies them.
+//! That needs are tested with ample memory. proofs/NeedExamples.antt has worked examples of what satisfies them.
 use crate::nodes::ascending;
 use plan_props::{
     Distribution, Partitioning, Props, partition_count, satisfies_distribution, satisfies_order,
