@@ -126,7 +126,7 @@ fn texts(rt: HostRuntime) -> Result<(), Fail> {
     let alloc = rt.alloc();
     let mut texts = Column::new(alloc, Kind::Text);
     texts.push_text("héé")?;
-    texts.push(Cell::Text("x"))?;
+    texts.push_text("x")?;
     texts.push_null()?;
     assert!(rt; texts.len() == 3);
     assert_eq!(rt; shown(alloc, &texts)?.as_str(), "héé;x;;");
@@ -146,7 +146,9 @@ fn decimals(rt: HostRuntime) -> Result<(), Fail> {
     );
     decimals.push_decimal(dec(&rt, -25, 1))?;
     decimals.push_copy(&Value::Dec(dec(&rt, 999, 1)))?;
-    assert_eq!(rt; shown(alloc, &decimals)?.as_str(), "-2.5;99.9;");
+    let number = dec(&rt, 5, 1);
+    decimals.push(Cell::Dec(number))?;
+    assert_eq!(rt; shown(alloc, &decimals)?.as_str(), "-2.5;99.9;0.5;");
     Ok(())
 }
 
