@@ -48,12 +48,12 @@ length-values f (x ∷ xs) = ap suc (length-values f xs)
 pub decimal_few : (p s : ℕ) (n : ℤ) → is_kind (kind.Dec p s) ≡ true → is_of (kind.Dec p s) (or_null (at_scale s) (Some n)) ≡ true → unsigned_abs n < 10 ^ 38
 decimal_few p s n k h =
     let few : unsigned_abs n < 10 ^ p = ltb-true _ _ (right_of _ _ h) in
-    let most : p ≤ 38 = leb-true _ _ (left_of _ _ k) in
+    let most : p ≤ 38 = leb-true _ _ (right_of _ _ (left_of _ _ k)) in
     omega (arith, ten_below p most)
 
 pub decimal_scale : (p s : ℕ) → is_kind (kind.Dec p s) ≡ true → s ≤ 38
 decimal_scale p s k =
-    let most : p ≤ 38 = leb-true _ _ (left_of _ _ k) in
+    let most : p ≤ 38 = leb-true _ _ (right_of _ _ (left_of _ _ k)) in
     let scale : s ≤ p = leb-true _ _ (right_of _ _ k) in
     omega arith
 
@@ -167,12 +167,4 @@ kinded-truths xs few = record { few = omega (arith, length-values value.Bool xs)
     all (None ∷ xs) = all xs
     all (Some x ∷ xs) = all xs
 
-pub kinded-ints : (xs : List (Option ℤ)) → length xs < 2 ^ 32 → Kinded kind.Int (map (or_null value.Int) xs)
-kinded-ints xs few = record { few = omega (arith, length-values value.Int xs); kind = refl; values = all xs }
-  where
-    all : (xs : List (Option ℤ)) → all_of kind.Int (map (or_null value.Int) xs) ≡ true
-    all [] = refl
-    all (None ∷ xs) = all xs
-    all (Some x ∷ xs) = all xs
-
-pub ruleset masked_columns = (kinded-truths, kinded-ints, length-masked)
+pub ruleset masked_columns = (kinded-truths, length-masked)
