@@ -1,5 +1,7 @@
 -- The worked query of the README, computed from the definitions.
 use Rattle.std.proofs.Common.{◌≡◌, refl, ℕ, pos, true, false, List, [], ◌∷◌, Some, Ok}
+use Rattle.std.specs.Str.{is_utf8, chars}
+use lib.Utf8.{encode}
 use Rattle.dfx_value.specs.Order.{value_cmp}
 use Rattle.dfx_value.specs.Decimal.{units}
 use Rattle.dfx_value.specs.declared.kind.Kind.{Kind}
@@ -76,6 +78,7 @@ kinds_are = simp (kinds_by_node)
 
 -- so every node gives rows of its kinds, and there are rows
 pub gives : everywhere_kinded tables query ≡ true
+unfolding is_utf8 chars encode
 gives = everywhere kinds_given tables (refl, (refl, tt)) query well
 
 pub items_are : body tables query

@@ -1,7 +1,7 @@
 -- Worked examples of the meaning, by computing.
 use Rattle.std.proofs.Common.{◌≡◌, refl, ℕ, pos, [], ◌∷◌, None, Some, Ok}
 use Rattle.std.specs.Prelude.{codes}
-use Rattle.dfx_value.specs.Parse.{digits, dec_of}
+use Rattle.dfx_value.specs.Parse.{natural, int_of, units_at, dec_parts, dec_of}
 use Rattle.dfx_value.specs.declared.kind.Kind.TheVariants as kind
 use Rattle.dfx_value.specs.declared.value.Value.TheVariants as value
 use Rattle.dfx_value.specs.declared.op.Op.TheVariants as op
@@ -29,11 +29,11 @@ zero_digits = refl
 
 -- 2 ^ 63 - 1 is a whole number and 2 ^ 63 a decimal
 pub greatest : literal (codes "9223372036854775807") ≡ Some (value.Int (pos 9223372036854775807), kind.Int)
-unfolding digits
+unfolding natural int_of
 greatest = refl
 
 pub wider : literal (codes "9223372036854775808") ≡ Some (value.Dec (record { unscaled = pos 9223372036854775808; scale = 0 }), kind.Dec 19 0)
-unfolding digits dec_of
+unfolding natural int_of units_at dec_parts dec_of
 wider = refl
 
 -- ---- names

@@ -12,7 +12,7 @@ use Rattle.dfx_value.proofs.DecimalLemmas.{ten_below}
 use Rattle.dfx_value.proofs.BatchLemmas.{both, left_of, right_of}
 use Rattle.value_columns.specs.Columns.{or_null, all_of, Kinded, KindedValues, chosen_of}
 use Rattle.value_columns.specs.Storage.{at_scale}
-use Rattle.value_columns.specs.Masked.{picked}
+use Rattle.value_columns.specs.Masked.{masked, picked}
 use Rattle.value_columns.proofs.MaskedLemmas.{length-masked}
 
 pub all_of-append : (k : Kind) (vs : List Value) (v : Value) → all_of k vs ≡ true → is_of k v ≡ true → all_of k (vs ++ v ∷ []) ≡ true
@@ -167,4 +167,25 @@ kinded-truths xs few = record { few = omega (arith, length-values value.Bool xs)
     all (None ∷ xs) = all xs
     all (Some x ∷ xs) = all xs
 
-pub ruleset masked_columns = (kinded-truths, length-masked)
+-- numbers of 64 bits, with one more
+pub ints_more : (ns : List ℤ) (i : ℕ) (d : ℤ) → i < length ns → all_of kind.Int (map value.Int (take i ns)) ≡ true
+    → is_of kind.Int (value.Int (get_or ns i d)) ≡ true → all_of kind.Int (map value.Int (take (suc i) ns)) ≡ true
+ints_more [] i d l h e = refl
+ints_more (n ∷ ns) zero d l h e = both _ _ e refl
+ints_more (n ∷ ns) (suc i) d l h e = both _ _ (left_of _ _ h) (ints_more ns i d (omega arith) (right_of _ _ h) e)
+
+pub kinded-ints : (ns : List ℤ) (bs : List Bool) → all_of kind.Int (map value.Int ns) ≡ true → length ns < 2 ^ 32
+    → Kinded kind.Int (map (or_null value.Int) (masked ns bs))
+kinded-ints ns bs h few = record {
+    few = omega (arith, length-values value.Int (masked ns bs), length-masked ns bs);
+    kind = refl;
+    values = all ns bs h;
+  }
+  where
+    all : (ns : List ℤ) (bs : List Bool) → all_of kind.Int (map value.Int ns) ≡ true → all_of kind.Int (map (or_null value.Int) (masked ns bs)) ≡ true
+    all [] bs h = refl
+    all (n ∷ ns) [] h = both _ _ (left_of _ _ h) (all ns [] (right_of _ _ h))
+    all (n ∷ ns) (true ∷ bs) h = all ns bs (right_of _ _ h)
+    all (n ∷ ns) (false ∷ bs) h = both _ _ (left_of _ _ h) (all ns bs (right_of _ _ h))
+
+pub ruleset masked_columns = (kinded-truths, kinded-ints, length-masked)

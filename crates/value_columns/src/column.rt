@@ -7,7 +7,7 @@ ghost use Rattle.dfx_value.specs.declared.kind.Kind.TheVariants as kind;
 ghost use Rattle.dfx_value.specs.declared.value.Value.TheVariants as value;
 ghost use Rattle.value_columns.specs.Masked.{masked};
 ghost use Rattle.value_columns.specs.Cells.{value_of};
-ghost use Rattle.value_columns.specs.Columns.{Kinded, with_value, with_part, chosen, or_null};
+ghost use Rattle.value_columns.specs.Columns.{Kinded, all_of, with_value, with_part, chosen, or_null};
 
 use crate::cell::{Cell, look, own};
 use crate::cells::Cells;
@@ -20,6 +20,24 @@ use std::marker::Model;
 #[derive(Drop)]
 pub struct Column {
     cells: Cells,
+}
+
+/// Shows that a number is a value of its kind: it fits 64 bits. It does nothing.
+#[inline]
+fn is_int(number: i64)
+    ensures { is_of kind.Int (value.Int number) ≡ true }
+{
+    let _ = number;
+}
+
+/// Shows that numbers are values of their kind. It does nothing.
+#[tactic(auto, using(crate::proofs::ColumnLemmas::ints_more))]
+fn are_ints(numbers: &[i64])
+    ensures { all_of kind.Int (map value.Int numbers.now) ≡ true }
+{
+    for number in numbers {
+        is_int(*number);
+    }
 }
 
 impl Model for Column {
@@ -210,6 +228,7 @@ impl Column {
         ensures kind { result.kind ≡ kind.Int }
         ensures values { result.values ≡ map (or_null value.Int) (masked numbers.items nulls.items) }
     {
+        are_ints(&numbers);
         Column {
             cells: Cells::Ints(Masked::of_parts(numbers, nulls)),
         }
