@@ -177,10 +177,10 @@ ints_more (n ∷ ns) (suc i) d l h e = both _ _ (left_of _ _ h) (ints_more ns i 
 pub kinded-ints : (ns : List ℤ) (bs : List Bool) → all_of kind.Int (map value.Int ns) ≡ true → length ns < 2 ^ 32
     → Kinded kind.Int (map (or_null value.Int) (masked ns bs))
 kinded-ints ns bs h few = record {
-    few = omega (arith, length-values value.Int (masked ns bs), length-masked ns bs);
-    kind = refl;
-    values = all ns bs h;
-  }
+  few = omega (arith, length-values value.Int (masked ns bs), length-masked ns bs);
+  kind = refl;
+  values = all ns bs h;
+}
   where
     all : (ns : List ℤ) (bs : List Bool) → all_of kind.Int (map value.Int ns) ≡ true → all_of kind.Int (map (or_null value.Int) (masked ns bs)) ≡ true
     all [] bs h = refl
