@@ -5,7 +5,8 @@ ghost use Rattle.dfx_outside.specs.Causes.{Rose};
 ghost use Rattle.dfx_outside.specs.Contents.{Contents};
 ghost use Rattle.sql_lexer.specs.Parts.{IsToken};
 ghost use Rattle.sql_grammar.specs.Parsed.{parsed};
-ghost use Rattle.planned_laws.specs.Planned.{IsPlanned};
+ghost use Rattle.planned_laws.specs.Queries.{QueryInRange};
+ghost use Rattle.planned_laws.specs.Wholly.{IsWhollyPlanned};
 ghost use Rattle.dfx_prepare.specs.Outcomes.{Answers, IsPreparing, IsQuerying, IsReading, OrMemory};
 ghost use Rattle.dfx_prepare.specs.Preparing as spec;
 ghost use Rattle.failure_text.specs.declared.failure.Failure.{Failure as Refusal};
@@ -14,6 +15,7 @@ ghost use Rattle.failure_text.specs.declared.failure.Failure.TheVariants as fail
 use crate::declared::{are_arrow, counts_of, schemas_of, table_names};
 use crate::prepared::Prepared;
 use crate::tables::files_of;
+use binder_laws::binder_law;
 use dfx_outside::Files;
 use dfx_value::{NoMemory, Seq, Text};
 use enforce_dist::enforce_distribution;
@@ -22,7 +24,7 @@ use failure_text::Failure;
 use logical_plan::Query;
 use physical_build::build;
 use physical_plan::Plan;
-use planned_laws::planned_law;
+use planned_laws::range_law;
 use sql_binder::{BindRefused, bind};
 use sql_grammar::SyntaxRefused;
 use sql_grammar::ast::Script;
@@ -60,8 +62,10 @@ fn script_of(alloc: Global, text: &[u8]) -> Result<Script, Failure>
 #[tactic(auto, unfolding(crate::specs::Preparing::query_of))]
 fn query_of(alloc: Global, script: &Script) -> Result<Query, Failure>
     ensures found { OrMemory result (spec.query_of script.now) }
+    ensures ranges { IfOk result QueryInRange }
     ensures querying { IfErr result IsQuerying }
 {
+    binder_law();
     let schemas = schemas_of(alloc, script.tables.as_slice())?;
     match bind(alloc, script, schemas.as_slice()) {
         Ok(query) => Ok(query),
@@ -72,10 +76,11 @@ fn query_of(alloc: Global, script: &Script) -> Result<Query, Failure>
 
 /// The finished plan of a query over tables of so many files.
 fn plan_of(alloc: Global, query: &Query, files: &[u32], n: u32) -> Result<Plan, NoMemory>
+    requires { QueryInRange query.now }
     ensures value { IfOk result (λ p. p ≡ spec.plan_of query.now files.now n) }
-    ensures planned { IfOk result (λ p. IsPlanned query.now files.now p n) }
+    ensures planned { IfOk result (λ p. IsWhollyPlanned query.now files.now p n) }
 {
-    planned_law();
+    range_law();
     let plain = build(alloc, query, files, n)?;
     let spread = enforce_distribution(alloc, plain, n)?;
     enforce_sorting(alloc, spread)
@@ -83,8 +88,9 @@ fn plan_of(alloc: Global, query: &Query, files: &[u32], n: u32) -> Result<Plan, 
 
 /// A query with its finished plan.
 fn with_plan(alloc: Global, query: Query, files: &[u32], n: u32) -> Result<(Query, Plan), NoMemory>
+    requires { QueryInRange query }
     ensures value { IfOk result (λ p. (p.0 ≡ query) × (p.1 ≡ spec.plan_of query files.now n)) }
-    ensures planned { IfOk result (λ p. IsPlanned p.0 files.now p.1 n) }
+    ensures planned { IfOk result (λ p. IsWhollyPlanned p.0 files.now p.1 n) }
 {
     let plan = plan_of(alloc, &query, files, n)?;
     Ok((query, plan))
@@ -99,7 +105,7 @@ fn planned_query(
 ) -> Result<(Query, Plan), Failure>
     ensures found { OrMemory result
         (spec.followed (spec.query_of script.now) (λ q. Ok (q, spec.plan_of q files.now n))) }
-    ensures planned { IfOk result (λ p. IsPlanned p.0 files.now p.1 n) }
+    ensures planned { IfOk result (λ p. IsWhollyPlanned p.0 files.now p.1 n) }
     ensures querying { IfErr result IsQuerying }
 {
     let query = query_of(alloc, script)?;
@@ -114,7 +120,7 @@ fn prepare_over(
     paths: Seq<Seq<Text>>,
 ) -> Result<Prepared, Failure>
     ensures prepared { OrMemory result (spec.prepared_over script.now n paths) }
-    ensures planned { IfOk result (λ p. IsPlanned p.query (map length p.paths) p.plan n) }
+    ensures planned { IfOk result (λ p. IsWhollyPlanned p.query (map length p.paths) p.plan n) }
     ensures same { IfOk result (λ p. p.paths ≡ paths) }
     ensures querying { IfErr result IsQuerying }
 {
@@ -142,7 +148,7 @@ fn prepare_script<F: Files>(
     ensures prepared { (all : Contents) → F.told files.old ≡ Some all
         → Answers result (spec.prepared_script all n script.now) }
     ensures whole { IfOk result (λ p. spec.IsOf script.now n p) }
-    ensures planned { IfOk result (λ p. IsPlanned p.query (map length p.paths) p.plan n) }
+    ensures planned { IfOk result (λ p. IsWhollyPlanned p.query (map length p.paths) p.plan n) }
     ensures same { F.told files.new ≡ F.told files.old }
     ensures later { (F.faults files.old ≤ F.faults files.new)
         × (F.absences files.old ≤ F.absences files.new) }
@@ -156,7 +162,7 @@ fn prepare_script<F: Files>(
     prepare_over(alloc, script, n, paths)
 }
 
-/// What the text of a script is prepared to for n partitions: its query, the finished plan, and the files of its tables.
+/// What the text of a script is prepared to for at least one partition: its query, the finished plan, and the files of its tables.
 ///
 /// The refusal is the first one: the text, then the grammar, then the tables in the order of their statements, each with its folder's
 /// listing, then the names and kinds.
@@ -167,15 +173,18 @@ pub fn prepare<F: Files>(
     files: &mut F,
     partitions: u32,
 ) -> Result<Prepared, Failure>
+    requires { 0 < partitions }
+
     // Where the files are told, this is answered, or a file failed, or there was no memory.
     ensures prepared { (all : Contents) → F.told files.old ≡ Some all
         → Answers result (spec.prepared script.now all partitions) }
 
-    // Told or not, a text that spells no script is refused so, and what is prepared is the script's.
+    // Told or not, a text that spells no script is refused so, and what is prepared is the script's, with a finished plan of its
+    // query, whose columns are all in range.
     ensures script { (refusal : Refusal) → spec.script_of script.now ≡ Err refusal
         → OrMemory result (Err refusal) }
     ensures whole { IfOk result (λ p. spec.IsOfText script.now partitions p) }
-    ensures planned { IfOk result (λ p. IsPlanned p.query (map length p.paths) p.plan partitions) }
+    ensures planned { IfOk result (λ p. IsWhollyPlanned p.query (map length p.paths) p.plan partitions) }
 
     // The files stay, and their counts tell of absences and faults.
     ensures same { F.told files.new ≡ F.told files.old }

@@ -22,7 +22,7 @@ ghost use Rattle.dfx_top.specs.declared.words.Request.TheVariants as wanted;
 use crate::explain::explain;
 use crate::files::read_file;
 use crate::query::run_query;
-use crate::words::{DEFAULT_PARTITIONS, Request, request_of};
+use crate::words::{Partitions, Request, request_of};
 use dfx_outside::{Files, Sink, write_all};
 use dfx_prepare::{Failure, Prepared, failure_line, prepare, status_of};
 use dfx_value::Text;
@@ -40,11 +40,11 @@ pub struct Finished<F, K, E> {
 }
 
 /// The number of partitions of a request.
-fn partitions_for(request: Request) -> u32
+fn partitions_for(request: Request) -> Partitions
     ensures { result ≡ spec.partitions_for request }
 {
     match request {
-        Request::Query => DEFAULT_PARTITIONS,
+        Request::Query => Partitions::usual(),
         Request::Explain { partitions } => partitions,
     }
 }
@@ -94,7 +94,7 @@ fn answer_text<F: Files, K: Sink>(
         → IsTextRefused refusal (of_result result) × (K.told sink.new ≡ K.told sink.old) }
     ensures words { result ≡ Err failure.Words → ⊥ }
 {
-    let prepared = prepare(alloc, text, files, partitions_for(request))?;
+    let prepared = prepare(alloc, text, files, partitions_for(request).count())?;
     answer_prepared(alloc, request, &prepared, files, sink)
 }
 

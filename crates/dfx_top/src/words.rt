@@ -1,17 +1,64 @@
 //! The words of a command.
 
-ghost use Rattle.std.specs.Prelude.{◌≡◌, option_map};
+ghost use Rattle.std.specs.Prelude.{◌≡◌, ◌<◌, Some, option_map};
 ghost use Rattle.dfx_top.specs.Words as spec;
 
 use dfx_value::Text;
+use std::marker::Model;
+
+/// A number of partitions, from 1 to 64.
+#[derive(Clone, Copy, Debug, PartialEq, Eq)]
+pub struct Partitions {
+    count: u32,
+}
+
+impl Model for Partitions {
+    ghost use Rattle.std.specs.Prelude.{ℕ, ◌≤◌};
+
+    ghost Value = { ℕ };
+
+    ghost view = { λ p. p.count };
+
+    ghost invariant = { λ p. (1 ≤ p.count) × (p.count ≤ 64) };
+
+    ghost inverse = { λ n. record { count = n } };
+}
+
+impl Partitions {
+    /// The number where nothing is said.
+    pub fn usual() -> Partitions
+        ensures { result ≡ spec.default_partitions }
+    {
+        Partitions { count: 4 }
+    }
+
+    /// So many, where that is a number of partitions.
+    fn new(count: u32) -> Option<Partitions>
+        ensures { result ≡ spec.in_range (Some count) }
+    {
+        if count >= 1 && count <= 64 {
+            Some(Partitions { count })
+        } else {
+            None
+        }
+    }
+
+    /// How many they are.
+    pub fn count(self) -> u32
+        ensures same { result ≡ self }
+        ensures some { 0 < result }
+    {
+        self.count
+    }
+}
 
 /// What a command does with its script.
 #[derive(Clone, Copy, Debug, PartialEq, Eq)]
 pub enum Request {
     /// It writes the answer of the query.
     Query,
-    /// It writes the text of the plan for so many partitions, from 1 to 64.
-    Explain { partitions: u32 },
+    /// It writes the text of the plan for so many partitions.
+    Explain { partitions: Partitions },
 }
 
 /// A request, and the path of its script.
@@ -20,9 +67,6 @@ pub struct Requested<'a> {
     pub request: Request,
     pub script: &'a Text,
 }
-
-/// The number of partitions where nothing is said.
-pub const DEFAULT_PARTITIONS: u32 = 4;
 
 /// Whether a word may name a file: it isn't empty and doesn't begin with `-`.
 fn is_plain(word: &[u8]) -> bool
@@ -36,7 +80,7 @@ fn is_plain(word: &[u8]) -> bool
 
 /// The number that digits write, as far as it is a number of partitions.
 #[tactic(auto, using(crate::proofs::WordSteps::too_great))]
-fn number_of(digits: &[u8]) -> Option<u32>
+fn number_of(digits: &[u8]) -> Option<Partitions>
     ensures { result ≡ spec.in_range (spec.number_after 0 digits.now) }
 {
     let mut number: u32 = 0;
@@ -49,15 +93,11 @@ fn number_of(digits: &[u8]) -> Option<u32>
         }
         number = number * 10 + u32::from(*byte - b'0');
     }
-    if number >= 1 && number <= 64 {
-        Some(number)
-    } else {
-        None
-    }
+    Partitions::new(number)
 }
 
 /// The number of partitions that a word writes: 1 to 20 digits, from 1 to 64.
-fn partitions_of(word: &[u8]) -> Option<u32>
+fn partitions_of(word: &[u8]) -> Option<Partitions>
     ensures { result ≡ spec.partitions_of word.now }
 {
     if word.len() >= 1 && word.len() <= 20 {
@@ -79,7 +119,7 @@ fn plain_request<'a>(name: &Text, script: &'a Text) -> Option<Requested<'a>>
     } else if name.as_str() == "explain" {
         Some(Requested {
             request: Request::Explain {
-                partitions: DEFAULT_PARTITIONS,
+                partitions: Partitions::usual(),
             },
             script,
         })
