@@ -10,7 +10,8 @@ use Rattle.csv_source.specs.CsvItems.{Item, items_from, record_item, is_bad}
 use Rattle.csv_source.specs.Records.{Fields, Takes, HasNone}
 use Rattle.csv_source.specs.Rows.{Gives}
 use Rattle.csv_source.specs.ScanView.{left_count}
-use Rattle.csv_source.specs.Scans.{Counts, rows_then, GivesRow, GivesRows, IsRefused}
+use Rattle.csv_source.specs.Scans.{Counts, rows_then}
+use Rattle.csv_source.specs.ScanView.{GivesRow, GivesRows, IsRefused}
 
 -- a record that was taken had a number that fits, and so has the next
 pub number_fits : (o now : Option (List Fields)) (fields : Fields) (n : ℕ) → Takes o fields now → Counts o n → n + 1 < 2 ^ 64

@@ -4,7 +4,8 @@ use Rattle.dfx_value.specs.declared.kind.Kind.{Kind}
 use Rattle.csv_source.specs.CsvItems.{Item, items_from, and_then, record_item}
 use Rattle.csv_source.specs.Records.{Fields, records_left}
 use Rattle.csv_source.specs.ScanView.{left_count}
-use Rattle.csv_source.specs.Scans.{Counts, GivesRow}
+use Rattle.csv_source.specs.Scans.{Counts}
+use Rattle.csv_source.specs.ScanView.{GivesRow}
 use Rattle.csv_source.specs.Progress.{left_of, is_begun, IsSound}
 use Rattle.csv_source.specs.declared.progress.Progress.{Progress}
 use Rattle.csv_source.specs.declared.progress.Progress.TheVariants as progress

@@ -1,9 +1,8 @@
--- Words: what a scan has left, and what a call takes of it.
-use Rattle.std.specs.Prelude.{◌≡◌, ◌+◌, ◌<◌, ◌^◌, ◌++◌, ◌∷◌, ℕ, List, [], length, map, take, drop, Option, Some, None, option_map, Ok, Err}
+-- Words: what a scan has left.
+use Rattle.std.specs.Prelude.{◌+◌, ◌<◌, ◌^◌, ◌++◌, ℕ, List, length, map, Option, Some, None, option_map, Ok}
 use Rattle.csv.specs.declared.reader.Reader.{Reader}
 use Rattle.dfx_value.specs.declared.kind.Kind.{Kind}
 use Rattle.dfx_value.specs.declared.value.Value.{Value as Cell}
-use Rattle.csv_source.specs.declared.refused.CsvRefused.{CsvRefused}
 use Rattle.csv_source.specs.CsvItems.{Item, items_from}
 use Rattle.csv_source.specs.Records.{Fields, records_left}
 
@@ -19,21 +18,3 @@ Counts (Some rs) n = n + length rs < 2 ^ 64
 -- rows, and then items
 abbrev pub rows_then : List (List Cell) → List Item → List Item
 rows_then rows items = map Ok rows ++ items
-
--- the rows are the next items, so many or all that there are, and the others are left
-pub record GivesRows (count : ℕ) (items : List Item) (rows : List (List Cell)) (left : Option (List Item)) : Type 0 where
-  pub next : map Ok rows ≡ take count items
-  pub rest : left ≡ Some (drop count items)
-
--- the refusal is the last item, and among the next so many
-pub record IsRefused (count : ℕ) (items : List Item) (e : CsvRefused) : Type 0 where
-  pub rows : List (List Cell)
-  pub few : length rows < count
-  pub is : items ≡ map Ok rows ++ Err e ∷ []
-
--- the row is the first of these items, and the others are left; without a row there is no item
-abbrev pub GivesRow : Option (List Item) → Option (List Cell) → Option (List Item) → Type 0
-GivesRow None row left = ⊥
-GivesRow (Some items) (Some row) None = ⊥
-GivesRow (Some items) (Some row) (Some left) = items ≡ Ok row ∷ left
-GivesRow (Some items) None left = items ≡ []

@@ -6,8 +6,7 @@ ghost use Rattle.dfx_outside.specs.Causes.{Rose};
 ghost use Rattle.dfx_value.specs.Kinds.{are_kinds, are_of};
 ghost use Rattle.csv_source.specs.CsvItems.{Item, csv_items, is_bad};
 ghost use Rattle.csv_source.specs.Progress.{left_of, is_begun, IsSound};
-ghost use Rattle.csv_source.specs.ScanView.{left_count};
-ghost use Rattle.csv_source.specs.Scans.{GivesRow, GivesRows, IsRefused};
+ghost use Rattle.csv_source.specs.ScanView.{GivesRow, GivesRows, IsRefused, left_count};
 ghost use Rattle.csv_source.specs.declared.refused.CsvRefused.{CsvRefused as Refusal};
 ghost use Rattle.csv_source.specs.declared.refused.CsvRefused.TheVariants as refused;
 

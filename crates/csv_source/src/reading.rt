@@ -4,8 +4,8 @@ ghost use Rattle.std.specs.Prelude.{◌≡◌, ◌≢◌, ◌+◌, ◌^◌, ◌<
 ghost use Rattle.dfx_value.specs.Kinds.{are_kinds, are_of};
 ghost use Rattle.csv_source.specs.CsvItems.{Item, is_bad};
 ghost use Rattle.csv_source.specs.Records.{IsSet, records_left};
-ghost use Rattle.csv_source.specs.ScanView.{left_count};
-ghost use Rattle.csv_source.specs.Scans.{Counts, items_left, rows_then, GivesRow, GivesRows, IsRefused};
+ghost use Rattle.csv_source.specs.Scans.{Counts, items_left, rows_then};
+ghost use Rattle.csv_source.specs.ScanView.{GivesRow, GivesRows, IsRefused, left_count};
 ghost use Rattle.csv_source.specs.declared.refused.CsvRefused.{CsvRefused as Refusal};
 ghost use Rattle.csv_source.specs.declared.refused.CsvRefused.TheVariants as refused;
 

@@ -4,8 +4,7 @@ ghost use Rattle.std.specs.Prelude.{◌≡◌, ◌^◌, ◌+◌, ◌<◌, ◌≤
 ghost use Rattle.dfx_outside.specs.Causes.{Rose};
 ghost use Rattle.dfx_value.specs.Kinds.{are_kinds, are_of};
 ghost use Rattle.csv_source.specs.CsvItems.{Item, csv_items, is_bad};
-ghost use Rattle.csv_source.specs.ScanView.{left_count};
-ghost use Rattle.csv_source.specs.Scans.{GivesRow, GivesRows, IsRefused};
+ghost use Rattle.csv_source.specs.ScanView.{GivesRow, GivesRows, IsRefused, left_count};
 ghost use Rattle.csv_source.specs.declared.refused.CsvRefused.{CsvRefused as Refusal};
 ghost use Rattle.csv_source.specs.declared.refused.CsvRefused.TheVariants as refused;
 
@@ -77,6 +76,7 @@ impl<S: Source> CsvScan<S> {
         ensures gives { (items : List Item) → self.old.left ≡ Some items → IfOk result (λ batch. GivesRows rows items batch.rows self.new.left) }
         ensures falls { IfOk result (λ batch. length batch.rows + left_count self.new.left ≤ left_count self.old.left) }
         ensures going { OnOk result (self.new.refused ≡ false) }
+        ensures ended { OnErr result (self.new.refused ≡ true) }
 
         // The file's refusal comes exactly where it is among the next items; the source's only where its count rose.
         ensures refused { (items : List Item) (e : Refusal) → self.old.left ≡ Some items → result ≡ Err e → is_bad e ≡ true → IsRefused rows items e }
@@ -104,6 +104,7 @@ impl<S: Source> CsvScan<S> {
         ensures gives { (items : List Item) → self.old.left ≡ Some items → IfOk result (λ row. GivesRow (Some items) row self.new.left) }
         ensures falls { IfOk result (λ o. IfSome o (λ row. left_count self.new.left < left_count self.old.left)) }
         ensures going { OnOk result (self.new.refused ≡ false) }
+        ensures ended { OnErr result (self.new.refused ≡ true) }
 
         // The file's refusal comes exactly where it is the next item; the source's only where its count rose.
         ensures refused { (items : List Item) (e : Refusal) → self.old.left ≡ Some items → result ≡ Err e → is_bad e ≡ true → items ≡ Err e ∷ [] }

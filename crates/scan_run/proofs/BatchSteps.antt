@@ -7,7 +7,7 @@ use Rattle.dfx_value.specs.declared.fault.ItemFault.{ItemFault}
 use Rattle.dfx_value.specs.declared.fault.ItemFault.TheVariants.{Evaluation}
 use Rattle.csv_source.specs.CsvItems as csv
 use Rattle.csv_source.specs.CsvItems.{is_bad}
-use Rattle.csv_source.specs.Scans.{GivesRow}
+use Rattle.csv_source.specs.ScanView.{GivesRow}
 use Rattle.csv_source.specs.declared.refused.CsvRefused.{CsvRefused}
 use Rattle.csv_source.specs.declared.refused.CsvRefused.TheVariants as scan
 use Rattle.logical_plan.specs.Items.{Cells, Item, faults, of_rows}
