@@ -122,6 +122,7 @@ fn number_of_name(names: &[Text], name: &Text, first: usize) -> Option<usize>
 }
 
 /// A whole number below 2^63.
+#[tactic(auto, unfolding(dfx_value::specs::Parse::int_of, dfx_value::specs::Parse::natural))]
 fn whole(alloc: Global, text: &Text) -> Result<Option<u64>, NoMemory>
     ensures { IfOk result (λ n. n ≡ spec.whole text.now) }
 {
