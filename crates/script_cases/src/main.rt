@@ -9,8 +9,6 @@ mod refused;
 mod report;
 mod runner;
 mod sections;
-#[cfg(test)]
-mod tests;
 
 ghost use Rattle.std.specs.Prelude.{◌<◌, length, IfOk};
 
