@@ -1,4 +1,4 @@
--- Words: what the tokens of a text are parsed to, by reading them from the left.
+-- Meaning: what the tokens of a text are parsed to, by reading them from the left: a script, or the refusal with its place.
 use Rattle.std.specs.Prelude.{◌≡◌, ℕ, List, [], ◌∷◌, map, length, Result, Ok, Err}
 use Rattle.sql_lexer.specs.declared.token.Token as lexed
 use Rattle.sql_grammar.specs.declared.ast.Script.{Script}

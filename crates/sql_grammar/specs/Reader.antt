@@ -1,4 +1,4 @@
--- Words: readers, which read a phrase from the left by the next token.
+-- Meaning: readers, which read a phrase from the left by the next token, and where a limit stops them.
 use Rattle.std.specs.Prelude.{ℕ, zero, suc, ◌+◌, List, [], ◌∷◌, length, Bool, Option, Some, None, if◌then◌else◌}
 use Rattle.sql_grammar.specs.declared.class.Class.{Class}
 use Rattle.sql_grammar.specs.Class.{Token, Tokens, among, starts}

@@ -1,4 +1,4 @@
--- Words: the same grammar, read from the left by the next token.
+-- Meaning: the same grammar, read from the left by the next token. It says at which token a limit is passed, and which limit.
 use Rattle.std.specs.Prelude.{ℕ, zero, suc, ◌+◌, ◌-◌, Bool, List, [], ◌∷◌, ◌++◌, drop, Option, Some, None, ◌&&◌}
 use Rattle.dfx_value.specs.declared.kind.Kind.{Kind}
 use Rattle.dfx_value.specs.declared.kind.Kind.TheVariants as kind

@@ -1,4 +1,4 @@
--- Meaning: the first token with which tokens begin no phrase, and the first with which a limit is passed.
+-- Meaning: the first token with which tokens begin no phrase, and a token with which a limit is passed (any such one).
 use Rattle.std.specs.Prelude.{◌≡◌, ℕ, List, [], ◌∷◌, ◌++◌, length, Result, Ok, Err}
 use Rattle.sql_grammar.specs.declared.refused.SyntaxRefused.{SyntaxRefused}
 use Rattle.sql_grammar.specs.declared.refused.SyntaxRefused.TheVariants as refused

@@ -11,7 +11,8 @@ use Rattle.sql_lexer.specs.declared.token.TokenKind.{TokenKind}
 use Rattle.sql_lexer.specs.declared.token.TokenKind.TheVariants as kind
 use Rattle.sql_lexer.specs.declared.cut.Cut.{Cut}
 use Rattle.sql_lexer.specs.declared.cut.Cut.TheVariants.{Blank, Found, Bad, Wide}
-use Rattle.sql_lexer.specs.Bytes.{between, begins_word, is_space, is_in, run, is_one_of, is_pair, symbol_length, quoted}
+use Rattle.sql_lexer.specs.Bytes.{between, begins_word, is_space, is_in, run, is_one_of, is_pair, symbol_length, further, quoted}
+use Rattle.sql_lexer.proofs.Quotes.{some_is, further_is}
 use Rattle.sql_lexer.specs.Cuts.{first_of, second_of, fraction_of, number_length, significant, number, cut_number, closed, cut_quoted, symbol_of, cut_symbol, begins_comment, begins_number, cut}
 
 tells : (b : Bool) → (b ≡ true) ⊎ (b ≡ false)
@@ -124,29 +125,32 @@ number_boundary bs u = by (fraction_of bs (run group.Digit bs)) refl
 
 -- ---- quoted texts
 
--- so many bytes up to a last quote, or none behind one that was seen
-abbrev Closes : ℕ → Bool → List ℕ → ℕ → ℕ → Type 0
-Closes q seen bs n m = ((front : List ℕ) × (back : List ℕ) × (bs ≡ front ++ q ∷ back) × (m ≡ n + length front + 1)) ⊎ ((seen ≡ true) × (m ≡ n))
+-- so many bytes up to a last quote, with that
+abbrev Closes : ℕ → List ℕ → ℕ → Type 0
+Closes q bs n = (front : List ℕ) × (back : List ℕ) × (bs ≡ front ++ q ∷ back) × (n ≡ length front + 1)
 
-closes_later : (q b : ℕ) (seen : Bool) (bs : List ℕ) (n m : ℕ) → Closes q (nat_eq b q) bs (n + 1) m → Closes q seen (b ∷ bs) n m
-closes_later q b seen bs n m (inl h) = inl (b ∷ h.0, h.1, ap (λ xs. b ∷ xs) h.2, omega (arith, h.3))
-closes_later q b seen bs n m (inr h) = inl ([], bs, ap (λ c. c ∷ bs) (eqb-true b q h.0), omega (arith, h.1))
+closes_first : (q b : ℕ) (bs : List ℕ) (n : ℕ) → nat_eq b q ≡ true → Some 1 ≡ Some n → Closes q (b ∷ bs) n
+closes_first q b bs n is e = ([], bs, ap (λ c. c ∷ bs) (eqb-true b q is), some_is 1 n e)
 
-some_is : (n m : ℕ) → Some n ≡ Some m → m ≡ n
-some_is n m e = cc
+closes_later : (q b : ℕ) (bs : List ℕ) (n m : ℕ) → Closes q bs m → 1 + m ≡ n → Closes q (b ∷ bs) n
+closes_later q b bs n m h e = (b ∷ h.0, h.1, ap (λ xs. b ∷ xs) h.2, omega (arith, h.3))
 
-closes : (q : ℕ) (seen : Bool) (bs : List ℕ) (n m : ℕ) → quoted q seen bs n ≡ Some m → Closes q seen bs n m
-closes q true [] n m e = inr (refl, some_is n m e)
-closes q false [] n m e = absurd (cc)
-closes q true (b ∷ bs) n m e = by (nat_eq b q) (closes q false bs (n + 1) m) e
+closes : (q : ℕ) (bs : List ℕ) (n : ℕ) → quoted q bs ≡ Some n → Closes q bs n
+closes q [] n e = absurd (cc)
+closes q (b ∷ []) n e = by (nat_eq b q) refl e
   where
-    by : (t : Bool) → (quoted q false bs (n + 1) ≡ Some m → Closes q false bs (n + 1) m) → (if t then quoted q false bs (n + 1) else Some n) ≡ Some m → Closes q true (b ∷ bs) n m
-    by true later e = elim (later e) [
-      | inl h ↦ closes_later q b true bs n m (inl h)
-      | inr h ↦ absurd (cc)
-    ]
-    by false later e = inr (refl, some_is n m e)
-closes q false (b ∷ bs) n m e = closes_later q b false bs n m (closes q (nat_eq b q) bs (n + 1) m e)
+    by : (t : Bool) → nat_eq b q ≡ t → (if t then Some 1 else None) ≡ Some n → Closes q (b ∷ []) n
+    by true is e = closes_first q b [] n is e
+    by false is e = absurd (cc)
+closes q (b ∷ c ∷ bs) n e = by (nat_eq b q) (nat_eq c q) refl (closes q bs) (closes q (c ∷ bs)) e
+  where
+    by : (t s : Bool) → nat_eq b q ≡ t → ((m : ℕ) → quoted q bs ≡ Some m → Closes q bs m) → ((m : ℕ) → quoted q (c ∷ bs) ≡ Some m → Closes q (c ∷ bs) m)
+        → (if t then (if s then further 2 (quoted q bs) else Some 1) else further 1 (quoted q (c ∷ bs))) ≡ Some n → Closes q (b ∷ c ∷ bs) n
+    by true true is behind later e =
+        let m = further_is 2 (quoted q bs) n e in
+        closes_later q b (c ∷ bs) n (1 + m.0) (closes_later q c bs (1 + m.0) m.0 (behind m.0 m.1) refl) (omega (arith, m.2))
+    by true false is behind later e = closes_first q b (c ∷ bs) n is e
+    by false s is behind later e = let m = further_is 1 (quoted q (c ∷ bs)) n e in closes_later q b (c ∷ bs) n m.0 (later m.0 m.1) m.2
 
 -- ---- symbols
 
@@ -217,20 +221,18 @@ module _ (bs : List ℕ) (u : IsUtf8 bs) where
 
   bounded_quoted : (k : TokenKind) (q : ℕ) → q < 128 → ((n : ℕ) → IsEnclosed bs n → Encloses k bs n) → nat_eq (first_of bs) q ≡ true → 0 < length bs → Bounded bs (cut_quoted k q bs)
   unfolding cut_quoted
-  bounded_quoted k q ascii encloses begins some = by (quoted q false (drop 1 bs) 0) refl
+  bounded_quoted k q ascii encloses begins some = by (quoted q (drop 1 bs)) refl
     where
       begins_so : (xs : List ℕ) → 0 < length xs → nat_eq (first_of xs) q ≡ true → xs ≡ q ∷ drop 1 xs
       begins_so [] h e = absurd (omega arith)
       begins_so (x ∷ xs) h e = ap (λ y. y ∷ xs) (eqb-true x q e)
 
-      by : (r : Option ℕ) → quoted q false (drop 1 bs) 0 ≡ r → Bounded bs (closed k r)
+      by : (r : Option ℕ) → quoted q (drop 1 bs) ≡ r → Bounded bs (closed k r)
       by None e = tt
-      by (Some n) e = elim (closes q false (drop 1 bs) 0 n e) [
-        | inl h ↦
-            let x = enclosed q n h.0 h.1 ascii (begins_so bs some begins ∙ ap (λ ys. q ∷ ys) h.2) (omega (arith, h.3)) in
-            (x.0, encloses (n + 1) x.1)
-        | inr h ↦ absurd (cc)
-      ]
+      by (Some n) e =
+          let h = closes q (drop 1 bs) n e in
+          let x = enclosed q n h.0 h.1 ascii (begins_so bs some begins ∙ ap (λ ys. q ∷ ys) h.2) (omega (arith, h.3)) in
+          (x.0, encloses (n + 1) x.1)
 
   bounded_symbol : 0 < length bs → Bounded bs (cut_symbol bs)
   unfolding cut_symbol

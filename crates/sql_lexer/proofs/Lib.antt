@@ -1,4 +1,5 @@
 pub mod Boundaries
 pub mod Each
+pub mod Quotes
 pub mod TextLemmas
 pub mod Turns

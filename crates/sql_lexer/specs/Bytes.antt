@@ -1,5 +1,5 @@
 -- Meaning: the bytes of a script, by what they may be part of.
-use Rattle.std.specs.Prelude.{ℕ, ◌+◌, nat_le, nat_eq, List, [], ◌∷◌, Bool, true, false, ◌||◌, ◌&&◌, not, if◌then◌else◌, Option, Some, None, codes}
+use Rattle.std.specs.Prelude.{ℕ, ◌+◌, nat_le, nat_eq, List, [], ◌∷◌, Bool, false, ◌||◌, ◌&&◌, not, if◌then◌else◌, Option, Some, None, codes}
 use Rattle.sql_lexer.specs.declared.bytes.Group.{Group}
 use Rattle.sql_lexer.specs.declared.bytes.Group.TheVariants as group
 
@@ -44,10 +44,16 @@ is_pair a b =
 abbrev pub symbol_length : ℕ → ℕ → ℕ
 symbol_length a b = if is_pair a b then 2 else (if is_one_of (codes "(),;.*+-/%=<>") a then 1 else 0)
 
--- Where a quoted text ends, of which n bytes were passed behind its first quote and which goes on with these; seen: whether the
--- last of them was a quote with which it may end. A doubled quote goes on.
-abbrev pub quoted : ℕ → Bool → List ℕ → ℕ → Option ℕ
-quoted q true [] n = Some n
-quoted q false [] n = None
-quoted q true (b ∷ bs) n = if nat_eq b q then quoted q false bs (n + 1) else Some n
-quoted q false (b ∷ bs) n = quoted q (nat_eq b q) bs (n + 1)
+-- so many bytes more than an end that there is
+abbrev pub further : ℕ → Option ℕ → Option ℕ
+further n None = None
+further n (Some m) = Some (n + m)
+
+-- How many bytes a quoted text has behind its first quote, up to its last one, with that: the first quote that isn't doubled. None
+-- where there is none.
+abbrev pub quoted : ℕ → List ℕ → Option ℕ
+quoted q [] = None
+quoted q (b ∷ []) = if nat_eq b q then Some 1 else None
+quoted q (b ∷ c ∷ bs) =
+    if nat_eq b q then (if nat_eq c q then further 2 (quoted q bs) else Some 1)
+    else further 1 (quoted q (c ∷ bs))

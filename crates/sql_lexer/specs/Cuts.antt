@@ -1,5 +1,5 @@
 -- Meaning: what stands at the front of a text.
-use Rattle.std.specs.Prelude.{ℕ, ◌+◌, ◌-◌, nat_lt, nat_eq, List, [], ◌∷◌, drop, take, Bool, false, ◌||◌, ◌&&◌, if◌then◌else◌, Option, Some, None}
+use Rattle.std.specs.Prelude.{ℕ, ◌+◌, ◌-◌, nat_lt, nat_eq, List, [], ◌∷◌, drop, take, Bool, ◌||◌, ◌&&◌, if◌then◌else◌, Option, Some, None}
 use Rattle.sql_lexer.specs.Bytes.{is_digit, begins_word, is_space, run, symbol_length, quoted}
 use Rattle.sql_lexer.specs.declared.bytes.Group.TheVariants as group
 use Rattle.sql_lexer.specs.declared.token.TokenKind.{TokenKind}
@@ -48,7 +48,7 @@ closed k None = Open
 closed k (Some n) = Found k (n + 1)
 
 unfoldable pub cut_quoted : TokenKind → ℕ → List ℕ → Cut
-cut_quoted k quote bs = closed k (quoted quote false (drop 1 bs) 0)
+cut_quoted k quote bs = closed k (quoted quote (drop 1 bs))
 
 abbrev pub symbol_of : ℕ → Cut
 symbol_of n = if nat_eq n 0 then Bad 0 else Found kind.Symbol n

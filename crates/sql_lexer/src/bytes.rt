@@ -1,4 +1,4 @@
-ghost use Rattle.std.specs.Prelude.{◌≡◌, ◌<◌, ◌≤◌, length, ◌⊎◌, IfSome, false};
+ghost use Rattle.std.specs.Prelude.{◌≡◌, ◌<◌, ◌≤◌, length, ◌⊎◌, IfSome};
 ghost use Rattle.sql_lexer.specs.Bytes as spec;
 ghost use Rattle.sql_lexer.specs.Cuts.{first_of, second_of};
 
@@ -103,9 +103,11 @@ pub fn symbol_length(a: u8, b: u8) -> usize
     }
 }
 
-/// How long a quoted text goes on behind its first quote, the last one with it.
+/// How many bytes a quoted text has behind its first quote, up to its last one, with that; none
+/// where it has no last one.
+#[tactic(auto, using(crate::proofs::Quotes::ends))]
 pub fn quoted_length(rest: &[u8], quote: u8) -> Option<usize>
-    ensures value { result ≡ spec.quoted quote false rest.now 0 }
+    ensures value { result ≡ spec.quoted quote rest.now }
     ensures within { IfSome result (λ n. n ≤ length rest.now) }
 {
     let mut seen = false;
