@@ -234,7 +234,7 @@ pub fn parse_script(alloc: Global, text: &[u8], tokens: &[Token]) -> Result<Scri
         IsRefused ScriptAt text.now (tokens_of text.now tokens.now) place }
 
     // The other two name a token with which the tokens begin a script, but none within the limits.
-    // Which token and which limit it is says `value` alone.
+    // Only `value` says which token and which limit it is.
     ensures deep { (place : ℕ) → result ≡ Err (TooDeep place) →
         IsPassed ScriptAt text.now (tokens_of text.now tokens.now) place }
     ensures many { (place : ℕ) → result ≡ Err (TooMany place) →

@@ -1,0 +1,34 @@
+//! What holds of each text.
+ghost use Rattle.std.specs.Prelude.{ℕ, ◌≡◌, ◌<◌, ◌≤◌, ◌+◌, List, [], length, drop, Ok, Err, IsUtf8};
+ghost use Rattle.sql_lexer.specs.declared.token.Token.{Token as AToken};
+ghost use Rattle.sql_lexer.specs.declared.refused.LexRefused.{LexRefused as ARefusal};
+ghost use Rattle.sql_lexer.specs.Cuts.{cut};
+ghost use Rattle.sql_lexer.specs.Tokens.{by_cut, most, tokens_from, Tokens};
+ghost use Rattle.lexer_laws.specs.Covers.{Takes, Covers, IsRefusedAt, tokens_at};
+
+/// What a text that isn't empty begins with is blank or a token of at least one byte and at most all
+/// of them, or a character that can't stand there is among its bytes.
+pub fn cut_law()
+    ensures { (bs : List ℕ) → 0 < length bs → Takes (length bs) (cut bs) }
+{}
+
+/// The number that bounds the turns of `tokens_from` never stops it: each number from the count of
+/// bytes on gives the same (`enough`). So the tokens of a text are told without it: none of the empty
+/// text (`none`), and of any other by what it begins with and what is behind that (`turn`).
+pub fn turn_law()
+    ensures enough { (n place : ℕ) (bs : List ℕ) → length bs ≤ n
+        → tokens_from n place bs ≡ tokens_at place bs }
+    ensures none { (place : ℕ) → tokens_at place [] ≡ Ok [] }
+    ensures turn { (place : ℕ) (bs : List ℕ) → 0 < length bs
+        → tokens_at place bs ≡ by_cut (λ k. tokens_at (place + k) (drop k bs)) place (cut bs) }
+{}
+
+/// The tokens of a text, with white space and comments between them, are the whole text, in order and
+/// without overlap (`whole`). Where a text is refused, they are what stands before the place of the
+/// refusal (`front`).
+pub fn covers_law()
+    ensures whole { (text : List ℕ) (ts : List AToken) → Tokens text ≡ Ok ts
+        → Covers text 0 ts (length text) }
+    ensures front { (text : List ℕ) (e : ARefusal) → length text ≤ most → IsUtf8 text
+        → Tokens text ≡ Err e → (ts : List AToken) × (at : ℕ) × Covers text 0 ts at × IsRefusedAt text at e }
+{}

@@ -1,0 +1,6 @@
+//! Laws of the lexer: the tokens of a text, with white space and comments between them, are the whole text.
+#![tactic(auto)]
+
+mod law;
+
+pub use law::{covers_law, cut_law, turn_law};
