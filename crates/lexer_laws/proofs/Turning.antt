@@ -11,7 +11,7 @@ use Rattle.lexer_laws.specs.Covers.{Takes, tokens_at}
 use Rattle.lexer_laws.proofs.Cutting.{good}
 
 -- what is behind matters only behind what the text begins with
-same_behind : (f g : ℕ → Result (List Token) LexRefused) (place len : ℕ) (c : Cut) → Takes len c → ((k : ℕ) → 0 < k → k ≤ len → f k ≡ g k) → by_cut f place c ≡ by_cut g place c
+pub same_behind : (f g : ℕ → Result (List Token) LexRefused) (place len : ℕ) (c : Cut) → Takes len c → ((k : ℕ) → 0 < k → k ≤ len → f k ≡ g k) → by_cut f place c ≡ by_cut g place c
 same_behind f g place len (Blank n) h e = e n h.0 h.1
 same_behind f g place len (Found k n) h e = ap (before (record { kind = k; from = place; to = place + n })) (e n h.0 h.1)
 same_behind f g place len (Bad n) h e = refl

@@ -3,4 +3,4 @@
 
 mod law;
 
-pub use law::{covers_law, cut_law, turn_law};
+pub use law::{covers_law, cut_law, quote_law, turn_law};
