@@ -57,12 +57,12 @@ abbrev pub Covers : List ℕ → ℕ → List Token → ℕ → Type 0
 Covers text from [] to = IsGap text from to
 Covers text from (t ∷ ts) to = IsGap text from t.from × IsToken text t × (t.from < t.to) × Covers text t.to ts to
 
--- what stands at this place of the text begins no token, and the refusal says so
-abbrev pub Begins : List ℕ → ℕ → LexRefused → Type 0
-Begins text at (refused.BadCharacter place) = (n : ℕ) × (cut (drop at text) ≡ cut_is.Bad n) × (place ≡ at + n)
-Begins text at (refused.OpenQuote place) = (cut (drop at text) ≡ cut_is.Open) × (place ≡ at)
-Begins text at (refused.WideNumber place) = (cut (drop at text) ≡ cut_is.Wide) × (place ≡ at)
-Begins text at _ = ⊥
+-- what stands at this place of the text begins no token, and this refusal says why and where
+abbrev pub BeginsNoToken : List ℕ → ℕ → LexRefused → Type 0
+BeginsNoToken text at (refused.BadCharacter place) = (n : ℕ) × (cut (drop at text) ≡ cut_is.Bad n) × (place ≡ at + n)
+BeginsNoToken text at (refused.OpenQuote place) = (cut (drop at text) ≡ cut_is.Open) × (place ≡ at)
+BeginsNoToken text at (refused.WideNumber place) = (cut (drop at text) ≡ cut_is.Wide) × (place ≡ at)
+BeginsNoToken text at _ = ⊥
 
 abbrev pub IsRefusedAt : List ℕ → ℕ → LexRefused → Type 0
-IsRefusedAt text at e = (at < length text) × Begins text at e
+IsRefusedAt text at e = (at < length text) × BeginsNoToken text at e

@@ -9,8 +9,8 @@ ghost use Rattle.sql_lexer.specs.Tokens.{by_cut, most, tokens_from, Tokens};
 ghost use Rattle.lexer_laws.specs.Covers.{Takes, Covers, IsRefusedAt, tokens_at};
 ghost use Rattle.lexer_laws.specs.Quotes.{doubled};
 
-/// What a text that isn't empty begins with is blank or a token of at least one byte and at most all
-/// of them, or a character that can't stand there is among its bytes.
+/// What a text that isn't empty begins with, where it is blank or a token, has at least one byte and
+/// no more than the text. Where it is refused for a character, that is one of the text's.
 pub fn cut_law()
     ensures { (bs : List ℕ) → 0 < length bs → Takes (length bs) (cut bs) }
 {}
@@ -46,5 +46,6 @@ pub fn covers_law()
     ensures sole { (text : List ℕ) (ts : List AToken) → length text ≤ most → IsUtf8 text
         → Covers text 0 ts (length text) → Tokens text ≡ Ok ts }
     ensures front { (text : List ℕ) (e : ARefusal) → length text ≤ most → IsUtf8 text
-        → Tokens text ≡ Err e → (ts : List AToken) × (at : ℕ) × Covers text 0 ts at × IsRefusedAt text at e }
+        → Tokens text ≡ Err e
+        → (ts : List AToken) × (at : ℕ) × Covers text 0 ts at × IsRefusedAt text at e }
 {}

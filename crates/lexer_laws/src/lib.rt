@@ -1,4 +1,4 @@
-//! Laws of the lexer: the tokens of a text, with white space and comments between them, are the whole text.
+//! Laws of the lexer: tokens, and white space and comments between them, are the whole text.
 #![tactic(auto)]
 
 mod law;
