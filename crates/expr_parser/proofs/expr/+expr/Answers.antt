@@ -71,7 +71,7 @@ primary::more_arguments-returns-then-not-starts-2 t c = list_end _ _ _ _ _ _ _ _
 pub primary::more_arguments-returns : goal.primary::more_arguments-returns
 primary::more_arguments-returns t c =
     let z : 255 - c.loop-turn._turn ≡ 0 = omega (arith, c.loop-turn-test.false) in
-    rw c.into.ensures (list_past _ _ _ _ _ _ _ _ _ _ c.loop-turn.invariant z (sym c.starts-2.ensures ∙ c.if-not-starts-2.false) c.past.ensures)
+    rw c.into.ensures (list_past _ _ expr_first _ _ c.loop-turn.found _ _ _ _ c.loop-turn.invariant z (sym c.starts-2.ensures ∙ c.if-not-starts-2.false) c.past.ensures)
 
 pub predicate::more_members-returns-then-not-starts : goal.predicate::more_members-returns-then-not-starts
 predicate::more_members-returns-then-not-starts t c = list_end _ _ _ _ _ _ _ _ c.loop-turn.invariant (sym c.starts.ensures ∙ c.if-not-starts.true)
@@ -93,4 +93,4 @@ predicate::more_members-returns-then-not-starts-2 t c = list_end _ _ _ _ _ _ _ _
 pub predicate::more_members-returns : goal.predicate::more_members-returns
 predicate::more_members-returns t c =
     let z : 255 - c.loop-turn._turn ≡ 0 = omega (arith, c.loop-turn-test.false) in
-    rw c.into.ensures (list_past _ _ _ _ _ _ _ _ _ _ c.loop-turn.invariant z (sym c.starts-2.ensures ∙ c.if-not-starts-2.false) c.past.ensures)
+    rw c.into.ensures (list_past _ _ expr_first _ _ c.loop-turn.found _ _ _ _ c.loop-turn.invariant z (sym c.starts-2.ensures ∙ c.if-not-starts-2.false) c.past.ensures)
