@@ -139,7 +139,7 @@ pub fn or_equals(
     binary(alloc, place, Op::Or, found, equal)
 }
 
-pub fn between(
+fn between(
     alloc: Global,
     place: u32,
     left: ExprAst,
@@ -152,4 +152,20 @@ pub fn between(
     let least = binary(alloc, place, Op::Ge, copied, low)?;
     let most = binary(alloc, place, Op::Le, left, high)?;
     binary(alloc, place, Op::And, least, most)
+}
+
+/// BETWEEN and its bounds, negated where NOT stands before it.
+pub fn bounded(
+    alloc: Global,
+    negated: Option<&Seen<'_>>,
+    place: u32,
+    left: ExprAst,
+    low: ExprAst,
+    high: ExprAst,
+) -> Result<ExprAst, NoMemory>
+    ensures { IfOk result (λ e. e ≡ tree.unless_not
+        (option_map (λ t. t.now) negated.entry) place (tree.between place left low high)) }
+{
+    let found = between(alloc, place, left, low, high)?;
+    unless_not(alloc, negated, place, found)
 }

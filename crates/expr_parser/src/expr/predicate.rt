@@ -12,7 +12,7 @@ use super::chain::{nested, nested_negation, sum};
 use crate::cursor::{Cursor, Seen};
 use crate::halt::Halt;
 use crate::list::{MORE, past};
-use crate::nodes::{at, between, equals, is_null, operated, or_equals, unless_not};
+use crate::nodes::{at, bounded, equals, is_null, operated, or_equals, unless_not};
 use crate::sets::{COMPARING, EXPR_FIRST, TESTS};
 use sql_grammar::ast::{ExprAst, NodeAst};
 use sql_grammar::class::Class;
@@ -171,8 +171,7 @@ fn between_of(
     let low = sum(alloc, cursor, depth)?;
     cursor.take(&[Class::And])?;
     let high = sum(alloc, cursor, depth)?;
-    let found = between(alloc, token.place(), left, low, high)?;
-    Ok(unless_not(alloc, negated, token.place(), found)?)
+    Ok(bounded(alloc, negated, token.place(), left, low, high)?)
 }
 
 #[cycle(expr)]
