@@ -1,5 +1,5 @@
 -- Reading, a turn or a level at a time.
-use Rattle.std.proofs.Common.{◌≡◌, ℕ, zero, suc, ◌+◌, ◌-◌, ◌<◌, List, [], ◌∷◌, length, Bool, true, false, if◌then◌else◌, Err, refl, sym, ap, ◌∙◌, arith, add-one}
+use Rattle.std.proofs.Common.{◌≡◌, ℕ, zero, suc, ◌+◌, ◌-◌, ◌<◌, List, [], ◌∷◌, length, Bool, true, false, if◌then◌else◌, refl, sym, ap, ◌∙◌, arith, add-one}
 use Rattle.sql_grammar.specs.declared.class.Class.{Class}
 use Rattle.sql_grammar.specs.declared.class.Class.TheVariants as class
 use Rattle.expr_parser.specs.declared.halt.Halt.{Halt}
@@ -7,7 +7,7 @@ use Rattle.expr_parser.specs.declared.halt.Halt.TheVariants as halt
 use Rattle.sql_grammar.specs.Class.{Token, Tokens, starts}
 use Rattle.sql_grammar.specs.Reader.{Stop, unexpected, too_many, over, Read, done, stop, Reader, and_then, terminal, turns_within, turns, up_to}
 use Rattle.sql_grammar.specs.Reading.{under, disjunction, negation_of, unary_of, union_of, full}
-use Rattle.expr_parser.specs.Cursors.{Reads, Stops, Stand, lim, below}
+use Rattle.expr_parser.specs.Cursors.{Halts, Stand, lim, below}
 
 pub under_expr : (d : ℕ) → 0 < d → (below d).expr ≡ disjunction lim (d - 1) (below (d - 1))
 unfolding under
@@ -30,11 +30,10 @@ under_union zero h = absurd (omega arith)
 under_union (suc d) h = let e : suc d - 1 ≡ d = omega arith in rw e refl
 
 -- a call that stops, where the reading around it stops too
-pub reads_stop : {A B X Y : Type 0} (view : X → A) (view2 : Y → B) (read : Read A) (read2 : Read B) (h : Halt) (new : Stand) → ((k : Stop) → read ≡ stop k new.tokens → read2 ≡ stop k new.tokens) → Reads view read (Err h) new → Reads view2 read2 (Err h) new
-reads_stop view view2 read read2 halt.Unexpected new f e = f _ e
-reads_stop view view2 read read2 halt.TooDeep new f e = f _ e
-reads_stop view view2 read read2 halt.TooMany new f e = f _ e
-reads_stop view view2 read read2 halt.NoMemory new f e = tt
+pub halts_also : {A B : Type 0} (read : Read A) (read2 : Read B) (h : Halt) (new : Stand)
+    → ((k : Stop) → read ≡ stop k new.tokens → read2 ≡ stop k new.tokens) → Halts read h new → Halts read2 h new
+halts_also read read2 (halt.Refused why) new f e = f _ e
+halts_also read read2 halt.NoMemory new f e = tt
 
 -- ---- turns
 
@@ -96,8 +95,9 @@ module _ {S : Type 0} (cs : List Class) (p : S → Reader S) (target : Read S) w
   pub loop_next : (k j : ℕ) (x y : S) (n m : ℕ) (ts rest : Tokens) → turns_within cs p k x n ts ≡ target → k ≡ j + 1 → starts cs ts ≡ true → p x n ts ≡ done y m rest → turns_within cs p j y m rest ≡ target
   loop_next k j x y n m ts rest kept e b r = sym (turns_turn cs p k j x y n m ts rest e b r) ∙ kept
 
-  pub loop_stop : {X Y : Type 0} (view : X → S) (view2 : Y → S) (k j : ℕ) (x : S) (n : ℕ) (ts : Tokens) (h : Halt) (new : Stand) → turns_within cs p k x n ts ≡ target → k ≡ j + 1 → starts cs ts ≡ true → Reads view (p x n ts) (Err h) new → Reads view2 target (Err h) new
-  loop_stop view view2 k j x n ts h new kept e b r = reads_stop view view2 (p x n ts) target h new (λ s q. sym kept ∙ turns_stop cs p k j x n s ts new.tokens e b q) r
+  pub loop_stop : (k j : ℕ) (x : S) (n : ℕ) (ts : Tokens) (h : Halt) (new : Stand) → turns_within cs p k x n ts ≡ target → k ≡ j + 1
+      → starts cs ts ≡ true → Halts (p x n ts) h new → Halts target h new
+  loop_stop k j x n ts h new kept e b r = halts_also (p x n ts) target h new (λ s q. sym kept ∙ turns_stop cs p k j x n s ts new.tokens e b q) r
 
 module _ {S : Type 0} (cs : List Class) (p : S → Reader S) (full_ : Reader S) (target : Read S) where
   pub list_end : (k : ℕ) (x : S) (n : ℕ) (ts : Tokens) → up_to cs p full_ k x n ts ≡ target → starts cs ts ≡ false → target ≡ done x n ts
@@ -106,8 +106,9 @@ module _ {S : Type 0} (cs : List Class) (p : S → Reader S) (full_ : Reader S) 
   pub list_next : (k j : ℕ) (x y : S) (n m : ℕ) (ts rest : Tokens) → up_to cs p full_ k x n ts ≡ target → k ≡ j + 1 → starts cs ts ≡ true → p x n ts ≡ done y m rest → up_to cs p full_ j y m rest ≡ target
   list_next k j x y n m ts rest kept e b r = sym (up_turn cs p full_ k j x y n m ts rest e b r) ∙ kept
 
-  pub list_stop : {X Y : Type 0} (view : X → S) (view2 : Y → S) (k j : ℕ) (x : S) (n : ℕ) (ts : Tokens) (h : Halt) (new : Stand) → up_to cs p full_ k x n ts ≡ target → k ≡ j + 1 → starts cs ts ≡ true → Reads view (p x n ts) (Err h) new → Reads view2 target (Err h) new
-  list_stop view view2 k j x n ts h new kept e b r = reads_stop view view2 (p x n ts) target h new (λ s q. sym kept ∙ up_stop cs p full_ k j x n s ts new.tokens e b q) r
+  pub list_stop : (k j : ℕ) (x : S) (n : ℕ) (ts : Tokens) (h : Halt) (new : Stand) → up_to cs p full_ k x n ts ≡ target → k ≡ j + 1
+      → starts cs ts ≡ true → Halts (p x n ts) h new → Halts target h new
+  list_stop k j x n ts h new kept e b r = halts_also (p x n ts) target h new (λ s q. sym kept ∙ up_stop cs p full_ k j x n s ts new.tokens e b q) r
 
 -- ---- past the end of a list
 
@@ -126,5 +127,6 @@ full_any {A} {B} cs n ts s rest e = by (terminal (class.Comma ∷ []) n ts) e
     by (stop j us) h = same_stop j s us rest h
 
 module _ {S : Type 0} (cs : List Class) (p : S → Reader S) (first : List Class) (target : Read S) where
-  pub list_past : {Y : Type 0} (view2 : Y → S) (k : ℕ) (x : S) (n : ℕ) (ts : Tokens) (h : Halt) (new : Stand) → up_to cs p (full first) k x n ts ≡ target → k ≡ 0 → starts cs ts ≡ true → Stops (full first n ts) h new → Reads view2 target (Err h) new
-  list_past view2 k x n ts h new kept z b r = reads_stop (λ (u : Unit {0}). u) view2 (full first n ts) target h new (λ s q. sym kept ∙ up_full cs p (full first) k x n s ts new.tokens z b (full_any first n ts s new.tokens q)) r
+  pub list_past : (k : ℕ) (x : S) (n : ℕ) (s : Stop) (ts rest : Tokens) → up_to cs p (full first) k x n ts ≡ target → k ≡ 0
+      → starts cs ts ≡ true → full {S = Unit {0}} first n ts ≡ stop s rest → target ≡ stop s rest
+  list_past k x n s ts rest kept z b r = sym kept ∙ up_full cs p (full first) k x n s ts rest z b (full_any first n ts s rest r)

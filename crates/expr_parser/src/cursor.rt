@@ -1,3 +1,4 @@
+//! A cursor over the tokens of a script.
 ghost use Rattle.std.specs.Prelude.{◌≡◌, ◌≤◌, ◌<◌, length, drop, option_map, IfOk, Some};
 ghost use Rattle.sql_lexer.specs.Parts.{IsToken};
 ghost use Rattle.sql_grammar.specs.Class as spec;
@@ -7,7 +8,7 @@ ghost use Rattle.sql_grammar.specs.Parsed.{place_or};
 ghost use Rattle.sql_grammar.specs.Reading.{all_of_ahead};
 ghost use Rattle.sql_grammar.specs.Reader.{terminal, over, too_deep, too_many, maybe, pay};
 
-use crate::halt::Halt;
+use crate::halt::Refusal;
 use crate::sets::NAMES;
 use dfx_value::{NoMemory, Text};
 use sql_grammar::class::{Class, among};
@@ -31,7 +32,11 @@ impl<'a> Model for Seen<'a> {
 
     ghost Value = { spec.Token };
 
-    ghost view = { λ s. record { class = s.class; text = texts.token_text s.script.now s.token; place = s.token.from } };
+    ghost view = { λ s. record {
+      class = s.class;
+      text = texts.token_text s.script.now s.token;
+      place = s.token.from;
+    } };
 
     ghost invariant = { λ s. IsToken s.script.now s.token };
 }
@@ -170,23 +175,25 @@ impl<'a> Cursor<'a> {
 
     /// Takes the next token, which is of one of these classes.
     #[tactic(auto, unfolding(sql_grammar::specs::Reader::matching))]
-    pub fn take(&mut self, classes: &[Class]) -> Result<&'a Seen<'a>, Halt>
-        ensures { Reads (λ t. t.now) (terminal classes.now self.old.counted self.old.tokens) result self.new }
+    pub fn take(&mut self, classes: &[Class]) -> Result<&'a Seen<'a>, Refusal>
+        ensures { Reads (λ t. t.now) (terminal classes.now) self.old result self.new }
     {
         match self.tokens {
             [first, rest @ ..] => {
                 if !among(first.class, classes) {
-                    return Err(Halt::Unexpected);
+                    return Err(Refusal::Unexpected);
                 }
                 self.tokens = rest;
                 Ok(first)
             }
-            [] => Err(Halt::Unexpected),
+            [] => Err(Refusal::Unexpected),
         }
     }
+
     /// Takes the next token if it is of one of these classes.
-    pub fn maybe(&mut self, classes: &[Class]) -> Result<Option<&'a Seen<'a>>, Halt>
-        ensures { Reads (option_map (λ t. t.now)) (maybe classes.now (terminal classes.now) self.old.counted self.old.tokens) result self.new }
+    pub fn maybe(&mut self, classes: &[Class]) -> Result<Option<&'a Seen<'a>>, Refusal>
+        ensures { Reads (option_map (λ t. t.now)) (maybe classes.now (terminal classes.now))
+            self.old result self.new }
     {
         if self.starts(classes) {
             let token = self.take(classes)?;
@@ -196,15 +203,15 @@ impl<'a> Cursor<'a> {
     }
 
     /// Counts so many more, of `most` in all, before a token of one of these classes.
-    pub fn pay(&mut self, most: usize, more: usize, classes: &[Class]) -> Result<(), Halt>
+    pub fn pay(&mut self, most: usize, more: usize, classes: &[Class]) -> Result<(), Refusal>
         requires { most ≤ 1024 }
-        ensures { Reads (λ u. u) (pay (Some most) more classes.now self.old.counted self.old.tokens) result self.new }
+        ensures { Reads (λ u. u) (pay (Some most) more classes.now) self.old result self.new }
     {
         if !self.starts(classes) {
-            return Err(Halt::Unexpected);
+            return Err(Refusal::Unexpected);
         }
         if more > most || self.counted > most - more {
-            return Err(Halt::TooMany);
+            return Err(Refusal::TooMany);
         }
         self.counted += more;
         Ok(())
@@ -219,24 +226,24 @@ impl<'a> Cursor<'a> {
     }
 
     /// Why what one of these classes begins is refused where there is no room for a level.
-    pub fn no_room(&self, classes: &[Class]) -> Halt
-        ensures { Stops (over too_deep classes.now self.now.counted self.now.tokens) result self.now }
+    pub fn no_room(&self, classes: &[Class]) -> Refusal
+        ensures { Stops (over too_deep classes.now) self.now result self.now }
     {
         if self.starts(classes) {
-            Halt::TooDeep
+            Refusal::TooDeep
         } else {
-            Halt::Unexpected
+            Refusal::Unexpected
         }
     }
 
     /// Why what one of these classes begins is refused where there are too many.
-    pub fn no_more(&self, classes: &[Class]) -> Halt
-        ensures { Stops (over too_many classes.now self.now.counted self.now.tokens) result self.now }
+    pub fn no_more(&self, classes: &[Class]) -> Refusal
+        ensures { Stops (over too_many classes.now) self.now result self.now }
     {
         if self.starts(classes) {
-            Halt::TooMany
+            Refusal::TooMany
         } else {
-            Halt::Unexpected
+            Refusal::Unexpected
         }
     }
 }

@@ -1,15 +1,36 @@
+//! Why reading stops.
 ghost use Rattle.std.specs.Prelude.{◌≡◌};
 
 use dfx_value::NoMemory;
 use std::alloc::{AllocError, AllocFailed};
 
-/// Why reading stops at the token where the cursor stands.
+/// Why a token is refused: that at which the cursor stands.
+#[derive(Clone, Copy, Debug, Drop)]
+pub enum Refusal {
+    /// It can't stand there.
+    Unexpected,
+    /// It would open a level for which there is no room.
+    TooDeep,
+    /// It would be one item, operator or table too many.
+    TooMany,
+}
+
+/// Why reading stops.
 #[derive(Clone, Copy, Debug, Drop)]
 pub enum Halt {
-    Unexpected,
-    TooDeep,
-    TooMany,
+    /// At the token where the cursor stands, or the end of the tokens.
+    Refused(Refusal),
     NoMemory,
+}
+
+impl From<Refusal> for Halt {
+    ghost use Rattle.expr_parser.specs.declared.halt.Halt.TheVariants.{Refused};
+
+    ghost from_gives = { λ refusal e. e ≡ Refused refusal };
+
+    fn from(refusal: Refusal) -> Halt {
+        Halt::Refused(refusal)
+    }
 }
 
 impl From<AllocError> for Halt {

@@ -1,10 +1,11 @@
+//! Names of types.
 ghost use Rattle.std.specs.Prelude.{◌≡◌, ◌≤◌, ◌<◌, IfSome, IfOk, length};
-ghost use Rattle.expr_parser.specs.Cursors.{Parses, first_text};
+ghost use Rattle.expr_parser.specs.Cursors.{Parses, Reads, first_text};
 ghost use Rattle.sql_grammar.specs.Reading as spec;
 ghost use Rattle.sql_grammar.specs.Trees as tree;
 
 use crate::cursor::Cursor;
-use crate::halt::Halt;
+use crate::halt::{Halt, Refusal};
 use crate::sets::SIMPLE_TYPES;
 use dfx_value::{Kind, NoMemory};
 use sql_grammar::class::Class;
@@ -21,8 +22,8 @@ fn kind_of(class: Class) -> Kind
 }
 
 #[tactic(auto, unfolding(sql_grammar::specs::Reading::simple_type))]
-fn simple_type(cursor: &mut Cursor<'_>) -> Result<Kind, Halt>
-    ensures { Parses (λ k. k) spec.simple_type cursor.old result cursor.new }
+fn simple_type(cursor: &mut Cursor<'_>) -> Result<Kind, Refusal>
+    ensures { Reads (λ k. k) spec.simple_type cursor.old result cursor.new }
 {
     let token = cursor.take(&SIMPLE_TYPES)?;
     Ok(kind_of(token.class()))
@@ -61,27 +62,27 @@ fn next_small(alloc: Global, cursor: &Cursor<'_>) -> Result<Option<u32>, NoMemor
 #[tactic(auto, unfolding(sql_grammar::specs::Reading::number_from, sql_grammar::specs::Reader::matching))]
 fn number_from(alloc: Global, cursor: &mut Cursor<'_>, least: u8, most: u8) -> Result<u8, Halt>
     requires { most ≤ 38 }
-    ensures value { Parses (λ n. n) (spec.number_from least most) cursor.old result cursor.new }
+    ensures value { Parses (spec.number_from least most) cursor.old result cursor.new }
     ensures within { IfOk result (λ n. n ≤ most) }
 {
     if !cursor.starts(&[Class::Number]) {
-        return Err(Halt::Unexpected);
+        return Err(Refusal::Unexpected.into());
     }
     match next_small(alloc, cursor)? {
         Some(number) => {
             if number < least as u32 || number > most as u32 {
-                return Err(Halt::Unexpected);
+                return Err(Refusal::Unexpected.into());
             }
             cursor.take(&[Class::Number])?;
             Ok(number as u8)
         }
-        None => Err(Halt::Unexpected),
+        None => Err(Refusal::Unexpected.into()),
     }
 }
 
 #[tactic(auto, unfolding(sql_grammar::specs::Reading::decimal))]
 fn decimal(alloc: Global, cursor: &mut Cursor<'_>) -> Result<Kind, Halt>
-    ensures { Parses (λ k. k) spec.decimal cursor.old result cursor.new }
+    ensures { Parses spec.decimal cursor.old result cursor.new }
 {
     cursor.take(&[Class::DecimalType])?;
     cursor.take(&[Class::Open])?;
@@ -95,10 +96,10 @@ fn decimal(alloc: Global, cursor: &mut Cursor<'_>) -> Result<Kind, Halt>
 /// The name of a type.
 #[tactic(auto, unfolding(sql_grammar::specs::Reading::type_name))]
 pub fn type_name(alloc: Global, cursor: &mut Cursor<'_>) -> Result<Kind, Halt>
-    ensures { Parses (λ k. k) spec.type_name cursor.old result cursor.new }
+    ensures { Parses spec.type_name cursor.old result cursor.new }
 {
     if cursor.starts(&SIMPLE_TYPES) {
-        return simple_type(cursor);
+        return Ok(simple_type(cursor)?);
     }
     decimal(alloc, cursor)
 }

@@ -1,3 +1,4 @@
+//! Levels of binary operators.
 ghost use Rattle.std.specs.Prelude.{◌≡◌};
 ghost use Rattle.expr_parser.specs.Cursors as spec;
 

@@ -6,5 +6,6 @@ pub mod expr;
 pub mod halt;
 pub mod kind;
 mod level;
+pub mod list;
 mod nodes;
 pub mod sets;

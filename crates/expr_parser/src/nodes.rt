@@ -1,3 +1,4 @@
+//! Nodes of the tree.
 ghost use Rattle.std.specs.Prelude.{◌≡◌, IfOk, option_map};
 ghost use Rattle.sql_grammar.specs.Trees as tree;
 ghost use Rattle.sql_grammar.specs.declared.ast.NodeAst.TheVariants as node;
@@ -53,7 +54,8 @@ pub fn at(place: u32, node: NodeAst) -> ExprAst
 }
 
 pub fn constant(alloc: Global, token: &Seen<'_>) -> Result<ExprAst, NoMemory>
-    ensures { IfOk result (λ e. e ≡ tree.at token.now.place (tree.constant_of token.now.class token.now.text)) }
+    ensures { IfOk result (λ e.
+        e ≡ tree.at token.now.place (tree.constant_of token.now.class token.now.text)) }
 {
     let node = match token.class() {
         Class::Number => NodeAst::Number(token.text(alloc)?),
@@ -102,7 +104,8 @@ pub fn unless_not(
     place: u32,
     inner: ExprAst,
 ) -> Result<ExprAst, NoMemory>
-    ensures { IfOk result (λ e. e ≡ tree.unless_not (option_map (λ t. t.now) negated.entry) place inner) }
+    ensures { IfOk result (λ e.
+        e ≡ tree.unless_not (option_map (λ t. t.now) negated.entry) place inner) }
 {
     match negated {
         Some(_word) => Ok(at(place, NodeAst::Not(Boxed::new(alloc, inner)?))),
@@ -136,7 +139,7 @@ pub fn or_equals(
     binary(alloc, place, Op::Or, found, equal)
 }
 
-pub fn between(
+fn between(
     alloc: Global,
     place: u32,
     left: ExprAst,
@@ -149,4 +152,20 @@ pub fn between(
     let least = binary(alloc, place, Op::Ge, copied, low)?;
     let most = binary(alloc, place, Op::Le, left, high)?;
     binary(alloc, place, Op::And, least, most)
+}
+
+/// BETWEEN and its bounds, negated where NOT stands before it.
+pub fn bounded(
+    alloc: Global,
+    negated: Option<&Seen<'_>>,
+    place: u32,
+    left: ExprAst,
+    low: ExprAst,
+    high: ExprAst,
+) -> Result<ExprAst, NoMemory>
+    ensures { IfOk result (λ e. e ≡ tree.unless_not
+        (option_map (λ t. t.now) negated.entry) place (tree.between place left low high)) }
+{
+    let found = between(alloc, place, left, low, high)?;
+    unless_not(alloc, negated, place, found)
 }

@@ -1,3 +1,4 @@
+//! What phrases begin with.
 use sql_grammar::class::Class;
 
 pub const COMPARING: [Class; 6] = [

@@ -1,24 +1,29 @@
+//! Scripts: tables, a union of selects, an order and limits.
 ghost use Rattle.std.specs.Prelude.{◌≡◌, ◌<◌, ◌≤◌, ◌^◌, ℕ, IfOk, All, Err, length, map, option_map};
 ghost use Rattle.sql_lexer.specs.Parts.{IsToken};
-ghost use Rattle.expr_parser.specs.Cursors.{Parses, lim, below};
+ghost use Rattle.expr_parser.specs.Cursors.{Parses, Reads, at_depth};
 ghost use Rattle.sql_grammar.specs.Grammar.{ScriptAt, Spells, SpellsWithin, one};
 ghost use Rattle.sql_grammar.specs.Reader.{maybe, only};
 ghost use Rattle.sql_grammar.specs.Reading as spec;
-ghost use Rattle.sql_grammar.specs.Reading.{expr_first};
 ghost use Rattle.sql_grammar.specs.Parsed.{Answers, answer, parsed, read, tokens_of};
 ghost use Rattle.sql_grammar.specs.Refusals.{Gives, IsPassed, IsRefused};
 ghost use Rattle.sql_grammar.specs.Trees as tree;
 ghost use Rattle.sql_grammar.specs.Words.{seen};
 ghost use Rattle.sql_grammar.specs.declared.ast.Script as ast;
 ghost use Rattle.sql_grammar.specs.declared.class.Class.TheVariants as class;
-ghost use Rattle.sql_grammar.specs.declared.refused.SyntaxRefused.TheVariants.{TooDeep, TooMany, Unexpected};
+ghost use Rattle.sql_grammar.specs.declared.refused.SyntaxRefused.TheVariants.{
+  TooDeep,
+  TooMany,
+  Unexpected,
+};
 
 use crate::create::tables_of;
 use crate::select::union_of;
 use dfx_value::{NoMemory, Seq};
 use expr_parser::cursor::{Cursor, Seen};
-use expr_parser::expr::{MORE, past, whole};
-use expr_parser::halt::Halt;
+use expr_parser::expr::whole;
+use expr_parser::halt::{Halt, Refusal};
+use expr_parser::list::{Element, listed};
 use expr_parser::sets::EXPR_FIRST;
 use sql_grammar::SyntaxRefused;
 use sql_grammar::ast::{KeyAst, NumberAst, Script};
@@ -39,7 +44,8 @@ fn is_descending(direction: Option<&Seen<'_>>) -> bool
 }
 
 fn nulls_first(direction: Option<&Seen<'_>>, nulls: Option<&Seen<'_>>) -> bool
-    ensures { result ≡ tree.nulls_first (option_map (λ t. t.now) direction.entry) (option_map (λ t. t.now) nulls.entry) }
+    ensures { result ≡ tree.nulls_first
+        (option_map (λ t. t.now) direction.entry) (option_map (λ t. t.now) nulls.entry) }
 {
     match nulls {
         Some(token) => same(token.class(), Class::First),
@@ -48,8 +54,10 @@ fn nulls_first(direction: Option<&Seen<'_>>, nulls: Option<&Seen<'_>>) -> bool
 }
 
 #[tactic(auto, unfolding(sql_grammar::specs::Reading::nulls_order))]
-fn nulls_order<'a>(cursor: &mut Cursor<'a>, depth: usize) -> Result<Option<&'a Seen<'a>>, Halt>
-    ensures { Parses (option_map (λ t. t.now)) (maybe (one class.Nulls) (spec.nulls_order lim depth (below depth))) cursor.old result cursor.new }
+fn nulls_order<'a>(cursor: &mut Cursor<'a>, depth: usize) -> Result<Option<&'a Seen<'a>>, Refusal>
+    ensures { Reads (option_map (λ t. t.now))
+        (maybe (one class.Nulls) (at_depth spec.nulls_order depth))
+        cursor.old result cursor.new }
 {
     if !cursor.starts(&[Class::Nulls]) {
         return Ok(None);
@@ -58,64 +66,28 @@ fn nulls_order<'a>(cursor: &mut Cursor<'a>, depth: usize) -> Result<Option<&'a S
     Ok(Some(cursor.take(&[Class::First, Class::Last])?))
 }
 
-/// A key of ORDER BY.
-#[tactic(auto, unfolding(sql_grammar::specs::Reading::key))]
-fn key(alloc: Global, cursor: &mut Cursor<'_>, depth: usize) -> Result<KeyAst, Halt>
-    ensures { Parses (λ k. k) (spec.key lim depth (below depth)) cursor.old result cursor.new }
-{
-    let expr = whole(alloc, cursor, depth)?;
-    let direction = cursor.maybe(&[Class::Asc, Class::Desc])?;
-    let nulls = nulls_order(cursor, depth)?;
-    Ok(KeyAst {
-        expr,
-        descending: is_descending(direction),
-        nulls_first: nulls_first(direction, nulls),
-    })
+/// A key of ORDER BY, with room for so many levels.
+#[derive(Clone, Copy, Drop)]
+struct SortKey {
+    depth: usize,
 }
 
-fn add_key(
-    alloc: Global,
-    cursor: &mut Cursor<'_>,
-    depth: usize,
-    mut found: Vec<KeyAst>,
-) -> Result<Vec<KeyAst>, Halt>
-    ensures { Parses (λ f. f.items) (spec.item_of (spec.key lim depth (below depth)) found.items) cursor.old result cursor.new }
-{
-    let next = key(alloc, cursor, depth)?;
-    found.push(next)?;
-    Ok(found)
-}
+impl Element for SortKey {
+    type Item = KeyAst;
 
-fn next_key(
-    alloc: Global,
-    cursor: &mut Cursor<'_>,
-    depth: usize,
-    found: Vec<KeyAst>,
-) -> Result<Vec<KeyAst>, Halt>
-    ensures { Parses (λ f. f.items) (spec.behind (spec.item_of (spec.key lim depth (below depth))) found.items) cursor.old result cursor.new }
-{
-    cursor.take(&[Class::Comma])?;
-    add_key(alloc, cursor, depth, found)
-}
+    ghost reader = { λ k. at_depth spec.key k.depth };
 
-fn more_keys(
-    alloc: Global,
-    cursor: &mut Cursor<'_>,
-    depth: usize,
-    mut found: Vec<KeyAst>,
-) -> Result<Vec<KeyAst>, Halt>
-    ensures { Parses (λ f. f.items) (spec.listing expr_first (spec.item_of (spec.key lim depth (below depth))) lim.more found.items) cursor.old result cursor.new }
-{
-    for _turn in 0..MORE {
-        if !cursor.starts(&[Class::Comma]) {
-            return Ok(found);
-        }
-        found = next_key(alloc, cursor, depth, found)?;
+    #[tactic(auto, unfolding(sql_grammar::specs::Reading::key))]
+    fn read(&self, alloc: Global, cursor: &mut Cursor<'_>) -> Result<KeyAst, Halt> {
+        let expr = whole(alloc, cursor, self.depth)?;
+        let direction = cursor.maybe(&[Class::Asc, Class::Desc])?;
+        let nulls = nulls_order(cursor, self.depth)?;
+        Ok(KeyAst {
+            expr,
+            descending: is_descending(direction),
+            nulls_first: nulls_first(direction, nulls),
+        })
     }
-    if !cursor.starts(&[Class::Comma]) {
-        return Ok(found);
-    }
-    Err(past(cursor, &EXPR_FIRST))
 }
 
 /// ORDER BY, where there is one.
@@ -125,15 +97,15 @@ fn order_by(
     cursor: &mut Cursor<'_>,
     depth: usize,
 ) -> Result<Option<Seq<KeyAst>>, Halt>
-    ensures { Parses (λ k. k) (maybe (one class.Order) (spec.order_by lim depth (below depth))) cursor.old result cursor.new }
+    ensures { Parses (maybe (one class.Order) (at_depth spec.order_by depth))
+        cursor.old result cursor.new }
 {
     if !cursor.starts(&[Class::Order]) {
         return Ok(None);
     }
     cursor.take(&[Class::Order])?;
     cursor.take(&[Class::By])?;
-    let first = add_key(alloc, cursor, depth, Vec::new(alloc))?;
-    let found = more_keys(alloc, cursor, depth, first)?;
+    let found = listed(alloc, cursor, &SortKey { depth }, &EXPR_FIRST)?;
     Ok(Some(Seq::from_vec(found)))
 }
 
@@ -145,7 +117,8 @@ fn number(
     depth: usize,
     word: Class,
 ) -> Result<Option<NumberAst>, Halt>
-    ensures { Parses (λ n. n) (maybe (one word) (spec.number lim depth (below depth) word)) cursor.old result cursor.new }
+    ensures { Parses (maybe (one word) (at_depth spec.number depth word))
+        cursor.old result cursor.new }
 {
     if !cursor.starts(&[word]) {
         return Ok(None);
@@ -161,7 +134,7 @@ fn number(
 /// A script, whatever follows.
 #[tactic(auto, unfolding(sql_grammar::specs::Reading::script_within))]
 fn script(alloc: Global, cursor: &mut Cursor<'_>) -> Result<Script, Halt>
-    ensures { Parses (λ s. s) (spec.script_at 0) cursor.old result cursor.new }
+    ensures { Parses (spec.script_at 0) cursor.old result cursor.new }
 {
     let tables = tables_of(alloc, cursor)?;
     let parts = union_of(alloc, cursor, LEVELS)?;
@@ -184,11 +157,11 @@ fn script(alloc: Global, cursor: &mut Cursor<'_>) -> Result<Script, Halt>
 
 /// A script and no token after it.
 fn whole_script(alloc: Global, cursor: &mut Cursor<'_>) -> Result<Script, Halt>
-    ensures { Parses (λ s. s) (only (spec.script_at 0)) cursor.old result cursor.new }
+    ensures { Parses (only (spec.script_at 0)) cursor.old result cursor.new }
 {
     let found = script(alloc, cursor)?;
     if cursor.left() > 0 {
-        return Err(Halt::Unexpected);
+        return Err(Refusal::Unexpected.into());
     }
     Ok(found)
 }
@@ -214,13 +187,13 @@ fn parse_seen<'a>(alloc: Global, seen: &'a [Seen<'a>], end: u32) -> Result<Scrip
     match whole_script(alloc, &mut cursor) {
         Ok(script) => Ok(script),
         Err(Halt::NoMemory) => Err(SyntaxRefused::NoMemory),
-        Err(Halt::Unexpected) => Err(SyntaxRefused::Unexpected {
+        Err(Halt::Refused(Refusal::Unexpected)) => Err(SyntaxRefused::Unexpected {
             place: cursor.place_or(end),
         }),
-        Err(Halt::TooDeep) => Err(SyntaxRefused::TooDeep {
+        Err(Halt::Refused(Refusal::TooDeep)) => Err(SyntaxRefused::TooDeep {
             place: cursor.place_or(end),
         }),
-        Err(Halt::TooMany) => Err(SyntaxRefused::TooMany {
+        Err(Halt::Refused(Refusal::TooMany)) => Err(SyntaxRefused::TooMany {
             place: cursor.place_or(end),
         }),
     }
@@ -238,7 +211,7 @@ fn parse_tokens(alloc: Global, text: &[u8], tokens: &[Token]) -> Result<Script, 
     parse_seen(alloc, &seen, text.len() as u32)
 }
 
-/// The script that the tokens of a text spell, or the first refusal in token order.
+/// The script that the tokens of a text spell, or the refusal at which reading them stops.
 pub fn parse_script(alloc: Global, text: &[u8], tokens: &[Token]) -> Result<Script, SyntaxRefused>
     requires parts { All (IsToken text.now) tokens.now }
     requires fits { length text.now < 2 ^ 32 }
@@ -246,20 +219,26 @@ pub fn parse_script(alloc: Global, text: &[u8], tokens: &[Token]) -> Result<Scri
     // What reading the tokens gives is answered, or want of memory.
     ensures value { Answers result (parsed text.now tokens.now) }
 
-    // The tokens spell the script that is answered within the limits, and spell no other within any.
+    // The tokens spell the script that is answered within the limits, and no other within any.
     ensures spelled { IfOk result (λ s. SpellsWithin s (tokens_of text.now tokens.now)) }
-    ensures sole { IfOk result (λ s. (other : ast.Script) → Spells other (tokens_of text.now tokens.now) → other ≡ s) }
+    ensures sole { IfOk result (λ s.
+        (other : ast.Script) → Spells other (tokens_of text.now tokens.now) → other ≡ s) }
 
     // Where they spell one within the limits, it is answered, or want of memory.
-    ensures only { (s : ast.Script) → SpellsWithin s (tokens_of text.now tokens.now) → Gives s result }
+    ensures only { (s : ast.Script) →
+        SpellsWithin s (tokens_of text.now tokens.now) → Gives s result }
 
-    // Unexpected names the first token with which the tokens begin no script, or the text's end where they end too early.
-    // Limits are left aside.
-    ensures unexpected { (place : ℕ) → result ≡ Err (Unexpected place) → IsRefused ScriptAt text.now (tokens_of text.now tokens.now) place }
+    // Unexpected names the first token with which the tokens begin no script, or the text's end
+    // where they end too early. Limits are left aside.
+    ensures unexpected { (place : ℕ) → result ≡ Err (Unexpected place) →
+        IsRefused ScriptAt text.now (tokens_of text.now tokens.now) place }
 
     // The other two name a token with which the tokens begin a script, but none within the limits.
-    ensures deep { (place : ℕ) → result ≡ Err (TooDeep place) → IsPassed ScriptAt text.now (tokens_of text.now tokens.now) place }
-    ensures many { (place : ℕ) → result ≡ Err (TooMany place) → IsPassed ScriptAt text.now (tokens_of text.now tokens.now) place }
+    // Only `value` says which token and which limit it is.
+    ensures deep { (place : ℕ) → result ≡ Err (TooDeep place) →
+        IsPassed ScriptAt text.now (tokens_of text.now tokens.now) place }
+    ensures many { (place : ℕ) → result ≡ Err (TooMany place) →
+        IsPassed ScriptAt text.now (tokens_of text.now tokens.now) place }
 {
     parse_tokens(alloc, text, tokens)
 }

@@ -1,16 +1,18 @@
+//! Selects and what they read.
 ghost use Rattle.std.specs.Prelude.{◌≡◌, ◌<◌, [], IfOk, option_map};
-ghost use Rattle.expr_parser.specs.Cursors.{Parses, lim, below};
-ghost use Rattle.sql_grammar.specs.Grammar.{one, names};
+ghost use Rattle.expr_parser.specs.Cursors.{Parses, Reads, at_depth, below};
+ghost use Rattle.sql_grammar.specs.Grammar.{one};
 ghost use Rattle.sql_grammar.specs.Reader.{inside, maybe, turns};
 ghost use Rattle.sql_grammar.specs.Reading as spec;
-ghost use Rattle.sql_grammar.specs.Reading.{called_first, expr_first, item_first, join_first};
+ghost use Rattle.sql_grammar.specs.Reading.{called_first, join_first};
 ghost use Rattle.sql_grammar.specs.Trees as tree;
 ghost use Rattle.sql_grammar.specs.declared.class.Class.TheVariants as class;
 
 use dfx_value::{JoinKind, NoMemory, Text};
 use expr_parser::cursor::{Cursor, Seen};
-use expr_parser::expr::{MORE, past, whole};
-use expr_parser::halt::Halt;
+use expr_parser::expr::whole;
+use expr_parser::halt::{Halt, Refusal};
+use expr_parser::list::{Element, listed};
 use expr_parser::sets::{CALLED_FIRST, EXPR_FIRST, ITEM_FIRST, JOIN_FIRST, NAMES, SIDES};
 use sql_grammar::ast::{ExprAst, FromAst, ItemAst, JoinAst, SelectAst};
 use sql_grammar::class::Class;
@@ -22,8 +24,8 @@ const TABLES: usize = 64;
 
 /// `[AS] name`
 #[tactic(auto, unfolding(sql_grammar::specs::Reading::called))]
-fn called<'a>(cursor: &mut Cursor<'a>) -> Result<&'a Seen<'a>, Halt>
-    ensures { Parses (λ t. t.now) spec.called cursor.old result cursor.new }
+fn called<'a>(cursor: &mut Cursor<'a>) -> Result<&'a Seen<'a>, Refusal>
+    ensures { Reads (λ t. t.now) spec.called cursor.old result cursor.new }
 {
     if cursor.starts(&[Class::As]) {
         cursor.take(&[Class::As])?;
@@ -32,8 +34,9 @@ fn called<'a>(cursor: &mut Cursor<'a>) -> Result<&'a Seen<'a>, Halt>
     cursor.take(&NAMES)
 }
 
-fn maybe_called<'a>(cursor: &mut Cursor<'a>) -> Result<Option<&'a Seen<'a>>, Halt>
-    ensures { Parses (option_map (λ t. t.now)) (maybe called_first spec.called) cursor.old result cursor.new }
+fn maybe_called<'a>(cursor: &mut Cursor<'a>) -> Result<Option<&'a Seen<'a>>, Refusal>
+    ensures { Reads (option_map (λ t. t.now)) (maybe called_first spec.called)
+        cursor.old result cursor.new }
 {
     if cursor.starts(&CALLED_FIRST) {
         let name = called(cursor)?;
@@ -53,7 +56,8 @@ fn text_of(alloc: Global, name: Option<&Seen<'_>>) -> Result<Option<Text>, NoMem
 
 /// A missing alias is the table's name.
 fn alias_or(alloc: Global, alias: Option<&Seen<'_>>, table: &Seen<'_>) -> Result<Text, NoMemory>
-    ensures { IfOk result (λ t. t ≡ tree.alias_or (option_map (λ t. t.now) alias.entry) table.now.text) }
+    ensures { IfOk result (λ t.
+        t ≡ tree.alias_or (option_map (λ t. t.now) alias.entry) table.now.text) }
 {
     match alias {
         Some(token) => token.text(alloc),
@@ -62,8 +66,8 @@ fn alias_or(alloc: Global, alias: Option<&Seen<'_>>, table: &Seen<'_>) -> Result
 }
 
 #[tactic(auto, unfolding(sql_grammar::specs::Reading::all_item))]
-fn all_item(cursor: &mut Cursor<'_>, depth: usize) -> Result<ItemAst, Halt>
-    ensures { Parses (λ i. i) (spec.all_item lim depth (below depth)) cursor.old result cursor.new }
+fn all_item(cursor: &mut Cursor<'_>, depth: usize) -> Result<ItemAst, Refusal>
+    ensures { Reads (λ i. i) (at_depth spec.all_item depth) cursor.old result cursor.new }
 {
     let star = cursor.take(&[Class::Star])?;
     Ok(ItemAst::All {
@@ -73,7 +77,7 @@ fn all_item(cursor: &mut Cursor<'_>, depth: usize) -> Result<ItemAst, Halt>
 
 #[tactic(auto, unfolding(sql_grammar::specs::Reading::all_of_item))]
 fn all_of_item(alloc: Global, cursor: &mut Cursor<'_>, depth: usize) -> Result<ItemAst, Halt>
-    ensures { Parses (λ i. i) (spec.all_of_item lim depth (below depth)) cursor.old result cursor.new }
+    ensures { Parses (at_depth spec.all_of_item depth) cursor.old result cursor.new }
 {
     let table = cursor.take(&NAMES)?;
     cursor.take(&[Class::Dot])?;
@@ -86,7 +90,7 @@ fn all_of_item(alloc: Global, cursor: &mut Cursor<'_>, depth: usize) -> Result<I
 
 #[tactic(auto, unfolding(sql_grammar::specs::Reading::one_item))]
 fn one_item(alloc: Global, cursor: &mut Cursor<'_>, depth: usize) -> Result<ItemAst, Halt>
-    ensures { Parses (λ i. i) (spec.one_item lim depth (below depth)) cursor.old result cursor.new }
+    ensures { Parses (at_depth spec.one_item depth) cursor.old result cursor.new }
 {
     let expr = whole(alloc, cursor, depth)?;
     let name = maybe_called(cursor)?;
@@ -96,67 +100,32 @@ fn one_item(alloc: Global, cursor: &mut Cursor<'_>, depth: usize) -> Result<Item
     })
 }
 
-#[tactic(auto, unfolding(sql_grammar::specs::Reading::select_item, sql_grammar::specs::Reading::named_item))]
-fn select_item(alloc: Global, cursor: &mut Cursor<'_>, depth: usize) -> Result<ItemAst, Halt>
-    ensures { Parses (λ i. i) (spec.select_item lim depth (below depth)) cursor.old result cursor.new }
-{
-    if cursor.starts(&[Class::Star]) {
-        return all_item(cursor, depth);
-    }
-    if cursor.all_of_ahead() {
-        return all_of_item(alloc, cursor, depth);
-    }
-    one_item(alloc, cursor, depth)
+/// An item of a select list, with room for so many levels.
+#[derive(Clone, Copy, Drop)]
+struct SelectItem {
+    depth: usize,
 }
 
-fn add_item(
-    alloc: Global,
-    cursor: &mut Cursor<'_>,
-    depth: usize,
-    mut found: Items<ItemAst>,
-) -> Result<Items<ItemAst>, Halt>
-    ensures { Parses (λ f. f) (spec.item_of (spec.select_item lim depth (below depth)) found) cursor.old result cursor.new }
-{
-    let next = select_item(alloc, cursor, depth)?;
-    found.push(next)?;
-    Ok(found)
-}
+impl Element for SelectItem {
+    type Item = ItemAst;
 
-fn next_item(
-    alloc: Global,
-    cursor: &mut Cursor<'_>,
-    depth: usize,
-    found: Items<ItemAst>,
-) -> Result<Items<ItemAst>, Halt>
-    ensures { Parses (λ f. f) (spec.behind (spec.item_of (spec.select_item lim depth (below depth))) found) cursor.old result cursor.new }
-{
-    cursor.take(&[Class::Comma])?;
-    add_item(alloc, cursor, depth, found)
-}
+    ghost reader = { λ i. at_depth spec.select_item i.depth };
 
-fn more_items(
-    alloc: Global,
-    cursor: &mut Cursor<'_>,
-    depth: usize,
-    mut found: Items<ItemAst>,
-) -> Result<Items<ItemAst>, Halt>
-    ensures { Parses (λ f. f) (spec.listing item_first (spec.item_of (spec.select_item lim depth (below depth))) lim.more found) cursor.old result cursor.new }
-{
-    for _turn in 0..MORE {
-        if !cursor.starts(&[Class::Comma]) {
-            return Ok(found);
+    #[tactic(auto, unfolding(sql_grammar::specs::Reading::select_item, sql_grammar::specs::Reading::named_item))]
+    fn read(&self, alloc: Global, cursor: &mut Cursor<'_>) -> Result<ItemAst, Halt> {
+        if cursor.starts(&[Class::Star]) {
+            return Ok(all_item(cursor, self.depth)?);
         }
-        found = next_item(alloc, cursor, depth, found)?;
+        if cursor.all_of_ahead() {
+            return all_of_item(alloc, cursor, self.depth);
+        }
+        one_item(alloc, cursor, self.depth)
     }
-    if !cursor.starts(&[Class::Comma]) {
-        return Ok(found);
-    }
-    Err(past(cursor, &ITEM_FIRST))
 }
 
 #[tactic(auto, unfolding(sql_grammar::specs::Reading::table_name))]
 fn table_name(alloc: Global, cursor: &mut Cursor<'_>, depth: usize) -> Result<FromAst, Halt>
-    ensures { Parses (λ f. f) (spec.table_name lim depth (below depth)) cursor.old result cursor.new }
+    ensures { Parses (at_depth spec.table_name depth) cursor.old result cursor.new }
 {
     cursor.pay(TABLES, 1, &NAMES)?;
     let table = cursor.take(&NAMES)?;
@@ -177,7 +146,7 @@ fn nested_union(
     depth: usize,
 ) -> Result<Items<SelectAst>, Halt>
     requires { 0 < depth }
-    ensures { Parses (λ s. s) (below depth).union cursor.old result cursor.new }
+    ensures { Parses (below depth).union cursor.old result cursor.new }
 {
     union_of(alloc, cursor, depth - 1)
 }
@@ -189,10 +158,11 @@ fn nested(
     cursor: &mut Cursor<'_>,
     depth: usize,
 ) -> Result<(u32, Items<SelectAst>), Halt>
-    ensures { Parses (λ n. n) (inside (one class.Open) depth (spec.nested lim depth (below depth))) cursor.old result cursor.new }
+    ensures { Parses (inside (one class.Open) depth (at_depth spec.nested depth))
+        cursor.old result cursor.new }
 {
     if depth == 0 {
-        return Err(cursor.no_room(&[Class::Open]));
+        return Err(cursor.no_room(&[Class::Open]).into());
     }
     let open = cursor.take(&[Class::Open])?;
     let parts = nested_union(alloc, cursor, depth)?;
@@ -203,7 +173,7 @@ fn nested(
 #[cycle(select)]
 #[tactic(auto, unfolding(sql_grammar::specs::Reading::derived_table))]
 fn derived_table(alloc: Global, cursor: &mut Cursor<'_>, depth: usize) -> Result<FromAst, Halt>
-    ensures { Parses (λ f. f) (spec.derived_table lim depth (below depth)) cursor.old result cursor.new }
+    ensures { Parses (at_depth spec.derived_table depth) cursor.old result cursor.new }
 {
     let (place, parts) = nested(alloc, cursor, depth)?;
     let alias = called(cursor)?;
@@ -217,7 +187,7 @@ fn derived_table(alloc: Global, cursor: &mut Cursor<'_>, depth: usize) -> Result
 #[cycle(select)]
 #[tactic(auto, unfolding(sql_grammar::specs::Reading::from_of))]
 fn from_of(alloc: Global, cursor: &mut Cursor<'_>, depth: usize) -> Result<FromAst, Halt>
-    ensures { Parses (λ f. f) (spec.from_of lim depth (below depth)) cursor.old result cursor.new }
+    ensures { Parses (at_depth spec.from_of depth) cursor.old result cursor.new }
 {
     if cursor.starts(&[Class::Open]) {
         return derived_table(alloc, cursor, depth);
@@ -236,8 +206,8 @@ fn side_of(class: Class) -> JoinKind
 }
 
 #[tactic(auto, unfolding(sql_grammar::specs::Reading::join_words, sql_grammar::specs::Reading::inner_join, sql_grammar::specs::Reading::outer_join, sql_grammar::specs::Reading::plain_join))]
-fn join_words(cursor: &mut Cursor<'_>, depth: usize) -> Result<JoinKind, Halt>
-    ensures { Parses (λ k. k) (spec.join_words lim depth (below depth)) cursor.old result cursor.new }
+fn join_words(cursor: &mut Cursor<'_>, depth: usize) -> Result<JoinKind, Refusal>
+    ensures { Reads (λ k. k) (at_depth spec.join_words depth) cursor.old result cursor.new }
 {
     if cursor.starts(&[Class::Inner]) {
         cursor.take(&[Class::Inner])?;
@@ -269,7 +239,7 @@ fn join_of(
     depth: usize,
     mut joins: Items<JoinAst>,
 ) -> Result<Items<JoinAst>, Halt>
-    ensures { Parses (λ j. j) (spec.join_of lim depth (below depth) joins) cursor.old result cursor.new }
+    ensures { Parses (at_depth spec.join_of depth joins) cursor.old result cursor.new }
 {
     let kind = join_words(cursor, depth)?;
     let right = from_of(alloc, cursor, depth)?;
@@ -281,7 +251,8 @@ fn join_of(
 
 #[cycle(select)]
 fn joins_of(alloc: Global, cursor: &mut Cursor<'_>, depth: usize) -> Result<Items<JoinAst>, Halt>
-    ensures { Parses (λ j. j) (turns join_first (spec.join_of lim depth (below depth)) []) cursor.old result cursor.new }
+    ensures { Parses (turns join_first (at_depth spec.join_of depth) [])
+        cursor.old result cursor.new }
 {
     let mut joins = Items::new(alloc);
     for _turn in 0..cursor.left() {
@@ -296,7 +267,8 @@ fn joins_of(alloc: Global, cursor: &mut Cursor<'_>, depth: usize) -> Result<Item
 /// WHERE and HAVING.
 #[tactic(auto, unfolding(sql_grammar::specs::Reading::where_of))]
 fn where_of(alloc: Global, cursor: &mut Cursor<'_>, depth: usize) -> Result<Option<ExprAst>, Halt>
-    ensures { Parses (λ e. e) (maybe (one class.Where) (spec.where_of lim depth (below depth))) cursor.old result cursor.new }
+    ensures { Parses (maybe (one class.Where) (at_depth spec.where_of depth))
+        cursor.old result cursor.new }
 {
     if !cursor.starts(&[Class::Where]) {
         return Ok(None);
@@ -307,7 +279,8 @@ fn where_of(alloc: Global, cursor: &mut Cursor<'_>, depth: usize) -> Result<Opti
 
 #[tactic(auto, unfolding(sql_grammar::specs::Reading::having_of))]
 fn having_of(alloc: Global, cursor: &mut Cursor<'_>, depth: usize) -> Result<Option<ExprAst>, Halt>
-    ensures { Parses (λ e. e) (maybe (one class.Having) (spec.having_of lim depth (below depth))) cursor.old result cursor.new }
+    ensures { Parses (maybe (one class.Having) (at_depth spec.having_of depth))
+        cursor.old result cursor.new }
 {
     if !cursor.starts(&[Class::Having]) {
         return Ok(None);
@@ -316,49 +289,20 @@ fn having_of(alloc: Global, cursor: &mut Cursor<'_>, depth: usize) -> Result<Opt
     Ok(Some(whole(alloc, cursor, depth)?))
 }
 
-fn add_group(
-    alloc: Global,
-    cursor: &mut Cursor<'_>,
+/// An expression of GROUP BY, with room for so many levels.
+#[derive(Clone, Copy, Drop)]
+struct GroupKey {
     depth: usize,
-    mut found: Items<ExprAst>,
-) -> Result<Items<ExprAst>, Halt>
-    ensures { Parses (λ f. f) (spec.item_of (spec.whole lim depth (below depth)) found) cursor.old result cursor.new }
-{
-    let next = whole(alloc, cursor, depth)?;
-    found.push(next)?;
-    Ok(found)
 }
 
-fn next_group(
-    alloc: Global,
-    cursor: &mut Cursor<'_>,
-    depth: usize,
-    found: Items<ExprAst>,
-) -> Result<Items<ExprAst>, Halt>
-    ensures { Parses (λ f. f) (spec.behind (spec.item_of (spec.whole lim depth (below depth))) found) cursor.old result cursor.new }
-{
-    cursor.take(&[Class::Comma])?;
-    add_group(alloc, cursor, depth, found)
-}
+impl Element for GroupKey {
+    type Item = ExprAst;
 
-fn more_groups(
-    alloc: Global,
-    cursor: &mut Cursor<'_>,
-    depth: usize,
-    mut found: Items<ExprAst>,
-) -> Result<Items<ExprAst>, Halt>
-    ensures { Parses (λ f. f) (spec.listing expr_first (spec.item_of (spec.whole lim depth (below depth))) lim.more found) cursor.old result cursor.new }
-{
-    for _turn in 0..MORE {
-        if !cursor.starts(&[Class::Comma]) {
-            return Ok(found);
-        }
-        found = next_group(alloc, cursor, depth, found)?;
+    ghost reader = { λ k. at_depth spec.whole k.depth };
+
+    fn read(&self, alloc: Global, cursor: &mut Cursor<'_>) -> Result<ExprAst, Halt> {
+        whole(alloc, cursor, self.depth)
     }
-    if !cursor.starts(&[Class::Comma]) {
-        return Ok(found);
-    }
-    Err(past(cursor, &EXPR_FIRST))
 }
 
 #[tactic(auto, unfolding(sql_grammar::specs::Reading::group_by))]
@@ -367,15 +311,16 @@ fn group_by(
     cursor: &mut Cursor<'_>,
     depth: usize,
 ) -> Result<Option<Items<ExprAst>>, Halt>
-    ensures { Parses (λ g. g) (maybe (one class.Group) (spec.group_by lim depth (below depth))) cursor.old result cursor.new }
+    ensures { Parses (maybe (one class.Group) (at_depth spec.group_by depth))
+        cursor.old result cursor.new }
 {
     if !cursor.starts(&[Class::Group]) {
         return Ok(None);
     }
     cursor.take(&[Class::Group])?;
     cursor.take(&[Class::By])?;
-    let first = add_group(alloc, cursor, depth, Items::new(alloc))?;
-    Ok(Some(more_groups(alloc, cursor, depth, first)?))
+    let found = listed(alloc, cursor, &GroupKey { depth }, &EXPR_FIRST)?;
+    Ok(Some(Items::from_vec(found)))
 }
 
 /// What a select is made of, without its place.
@@ -400,7 +345,8 @@ fn or_none(alloc: Global, groups: Option<Items<ExprAst>>) -> Items<ExprAst>
 
 #[tactic(auto, unfolding(sql_grammar::specs::Trees::select_of))]
 fn select_of(alloc: Global, word: &Seen<'_>, distinct: Option<&Seen<'_>>, parts: Parts) -> SelectAst
-    ensures { result ≡ tree.select_of word.now (option_map (λ t. t.now) distinct.entry) parts.items parts.first parts.joins parts.test parts.groups parts.having }
+    ensures { result ≡ tree.select_of word.now (option_map (λ t. t.now) distinct.entry)
+        parts.items parts.first parts.joins parts.test parts.groups parts.having }
 {
     let Parts {
         items,
@@ -425,12 +371,11 @@ fn select_of(alloc: Global, word: &Seen<'_>, distinct: Option<&Seen<'_>>, parts:
 #[cycle(select)]
 #[tactic(auto, unfolding(sql_grammar::specs::Reading::select))]
 fn select(alloc: Global, cursor: &mut Cursor<'_>, depth: usize) -> Result<SelectAst, Halt>
-    ensures { Parses (λ s. s) (spec.select lim depth (below depth)) cursor.old result cursor.new }
+    ensures { Parses (at_depth spec.select depth) cursor.old result cursor.new }
 {
     let word = cursor.take(&[Class::Select])?;
     let distinct = cursor.maybe(&[Class::Distinct])?;
-    let items = add_item(alloc, cursor, depth, Items::new(alloc))?;
-    let items = more_items(alloc, cursor, depth, items)?;
+    let items = Items::from_vec(listed(alloc, cursor, &SelectItem { depth }, &ITEM_FIRST)?);
     cursor.take(&[Class::From])?;
     let first = from_of(alloc, cursor, depth)?;
     let joins = joins_of(alloc, cursor, depth)?;
@@ -460,7 +405,7 @@ fn united(
     depth: usize,
     mut parts: Items<SelectAst>,
 ) -> Result<Items<SelectAst>, Halt>
-    ensures { Parses (λ s. s) (spec.united lim depth (below depth) parts) cursor.old result cursor.new }
+    ensures { Parses (at_depth spec.united depth parts) cursor.old result cursor.new }
 {
     cursor.take(&[Class::Union])?;
     cursor.take(&[Class::All])?;
@@ -476,7 +421,8 @@ fn more_parts(
     depth: usize,
     mut parts: Items<SelectAst>,
 ) -> Result<Items<SelectAst>, Halt>
-    ensures { Parses (λ s. s) (turns (one class.Union) (spec.united lim depth (below depth)) parts) cursor.old result cursor.new }
+    ensures { Parses (turns (one class.Union) (at_depth spec.united depth) parts)
+        cursor.old result cursor.new }
 {
     for _turn in 0..cursor.left() {
         if !cursor.starts(&[Class::Union]) {
@@ -495,7 +441,7 @@ pub fn union_of(
     cursor: &mut Cursor<'_>,
     depth: usize,
 ) -> Result<Items<SelectAst>, Halt>
-    ensures { Parses (λ s. s) (spec.union_of lim depth (below depth)) cursor.old result cursor.new }
+    ensures { Parses (at_depth spec.union_of depth) cursor.old result cursor.new }
 {
     let first = select(alloc, cursor, depth)?;
     let mut parts = Items::new(alloc);

@@ -1,7 +1,6 @@
-use Rattle.std.proofs.Common.{◌≡◌, ◌+◌, ◌-◌, ℕ, List, true, refl, sym, ◌∙◌, arith, Vec, Global}
+use Rattle.std.proofs.Common.{◌≡◌, ◌+◌, ◌-◌, ℕ, List, true, refl, sym, ◌∙◌, arith}
 use Rattle.std.proofs.lemmas.Result.{err_from_is_err_and}
 use Rattle.sql_grammar.specs.declared.class.Class.{Class}
-use Rattle.sql_grammar.specs.declared.ast.TableAst.{TableAst}
 use Rattle.sql_grammar.specs.Class.{Tokens, starts}
 use Rattle.sql_grammar.specs.Reader.{Read, stop, Reader, too_many, over, up_to}
 use Rattle.expr_parser.proofs.Steps.{list_end, list_next, list_stop, up_full}
@@ -21,7 +20,7 @@ pub returns-in_err-tables : goal.returns-in_err-tables
 returns-in_err-tables c =
     let q = err_from_is_err_and c.from_residual.result c.from_residual.ensures.1 in
     let e : 64 - c.loop-turn._turn ≡ (64 - (c.loop-turn._turn + 1)) + 1 = omega (arith, c.loop-turn-test.true) in
-    rw (q.1, q.2) (list_stop _ _ _ _ (λ (f : Vec TableAst Global). f.items) (λ (f : Vec TableAst Global). f.items) _ _ _ _ _ _ _ c.loop-turn.invariant e (sym c.starts.ensures ∙ c.if-not-starts.false) c.in_err-tables.ensures)
+    rw (q.1, q.2) (list_stop _ _ _ _ _ _ _ _ _ _ _ c.loop-turn.invariant e (sym c.starts.ensures ∙ c.if-not-starts.false) c.in_err-tables.ensures)
 
 pub loop-turn-preserved : goal.loop-turn-preserved
 loop-turn-preserved c =
@@ -34,4 +33,4 @@ returns-then-not-starts-2 c = list_end _ _ _ _ _ _ _ _ c.loop-turn.invariant (sy
 pub returns : goal.returns
 returns c =
     let z : 64 - c.loop-turn._turn ≡ 0 = omega (arith, c.loop-turn-test.false) in
-    full _ _ _ _ _ _ _ c.loop-turn.invariant z (sym c.starts-2.ensures ∙ c.if-not-starts-2.false)
+    rw c.into.ensures (full _ _ _ _ _ _ _ c.loop-turn.invariant z (sym c.starts-2.ensures ∙ c.if-not-starts-2.false))

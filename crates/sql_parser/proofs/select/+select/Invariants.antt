@@ -3,8 +3,8 @@ use Rattle.sql_grammar.specs.declared.class.Class.TheVariants as class
 use Rattle.sql_grammar.specs.Grammar.{one}
 use Rattle.sql_grammar.specs.Reader.{turns_within, turns}
 use Rattle.sql_grammar.specs.Reading as spec
-use Rattle.sql_grammar.specs.Reading.{expr_first, item_first, join_first, behind, full}
-use Rattle.expr_parser.specs.Cursors.{lim, below}
+use Rattle.sql_grammar.specs.Reading.{join_first}
+use Rattle.expr_parser.specs.Cursors.{at_depth}
 use Rattle.sql_parser.proofs.select.+select.Given as goal
 
 abbrev pub decreases-nested_union : goal.decreases-nested_union
@@ -38,7 +38,13 @@ abbrev pub decreases-union_of : goal.decreases-union_of
 decreases-union_of l = l.depth * 16 + 9
 
 abbrev pub invariant-joins_of-loop-turn : goal.invariant-joins_of-loop-turn
-invariant-joins_of-loop-turn l = turns_within join_first (spec.join_of lim l.depth (below l.depth)) (l._turn-end - l._turn) l.joins l.cursor.counted l.cursor.tokens ≡ turns join_first (spec.join_of lim l.depth (below l.depth)) [] l.fn.cursor.counted l.fn.cursor.tokens
+invariant-joins_of-loop-turn l =
+    let turn = at_depth spec.join_of l.depth in
+    turns_within join_first turn (l._turn-end - l._turn) l.joins l.cursor.counted l.cursor.tokens
+    ≡ turns join_first turn [] l.fn.cursor.counted l.fn.cursor.tokens
 
 abbrev pub invariant-more_parts-loop-turn : goal.invariant-more_parts-loop-turn
-invariant-more_parts-loop-turn l = turns_within (one class.Union) (spec.united lim l.depth (below l.depth)) (l._turn-end - l._turn) l.parts l.cursor.counted l.cursor.tokens ≡ turns (one class.Union) (spec.united lim l.depth (below l.depth)) l.fn.parts l.fn.cursor.counted l.fn.cursor.tokens
+invariant-more_parts-loop-turn l =
+    let turn = at_depth spec.united l.depth in
+    turns_within (one class.Union) turn (l._turn-end - l._turn) l.parts l.cursor.counted l.cursor.tokens
+    ≡ turns (one class.Union) turn l.fn.parts l.fn.cursor.counted l.fn.cursor.tokens
