@@ -1,11 +1,11 @@
 -- Names that name one column are written alike.
-use Rattle.std.proofs.Common.{◌≡◌, refl, sym, ◌∙◌, ap, ℕ, suc, ◌≤◌, Bool, true, false, ◌&&◌, Option, Some, None, List, [], ◌∷◌, nat_eq, arith}
+use Rattle.std.proofs.Common.{◌≡◌, refl, sym, ◌∙◌, ap, ℕ, suc, ◌≤◌, Bool, true, false, ◌&&◌, Option, Some, None, List, [], ◌∷◌, arith}
 use Rattle.std.proofs.lemmas.Bool.{eqb-true}
 use Rattle.std.proofs.lemmas.Cmp.{nat_list_eq_equiv}
 use Rattle.typed_exprs.specs.declared.refusal.Why.TheVariants as why
 use Rattle.typed_exprs.specs.declared.scope.Column.{Column}
 use Rattle.typed_exprs.specs.Answer.{refuse_if}
-use Rattle.typed_exprs.specs.Scopes.{Columns, is_text, is_under, is_named, is_unknown, with_if, numbers_from, numbers, the_one, column_of}
+use Rattle.typed_exprs.specs.Scopes.{Columns, is_text, is_under, is_named, is_unknown, with_if, numbers_from, numbers, the_one}
 use Rattle.expr_binder.specs.Same.{same_column, same_name}
 use Rattle.expr_binder.specs.Alike.{may_be_under, may_be_one}
 

@@ -1,5 +1,5 @@
 -- Words: names that may name one column, by how they are written.
-use Rattle.std.specs.Prelude.{ℕ, Bool, true, ◌&&◌, Option, Some, None, List}
+use Rattle.std.specs.Prelude.{ℕ, Bool, true, ◌&&◌, Option, Some, List}
 use Rattle.typed_exprs.specs.Scopes.{is_text}
 
 -- two aliases, where both are written, are one

@@ -10,7 +10,7 @@ use Rattle.typed_exprs.specs.Answer.{Answer, refuse_if}
 use Rattle.typed_exprs.specs.Scopes.{Columns, is_named, is_unknown, with_if, numbers_from, numbers, the_one, column_of}
 use Rattle.expr_binder.specs.Groups.{Groups}
 use Rattle.sql_binder.specs.Firsts.{number_of, column_named, with_first, firsts_from}
-use Rattle.sql_binder.specs.Items.{written_name, is_column, key_from}
+use Rattle.sql_binder.specs.Items.{is_column, key_from}
 
 -- ---- a name names one of the columns
 

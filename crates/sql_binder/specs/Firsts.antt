@@ -1,5 +1,5 @@
 -- Words: where the items of a select stand, and which key each column is.
-use Rattle.std.specs.Prelude.{ℕ, suc, Bool, false, nat_eq, Option, Some, None, List, [], ◌∷◌, length, replicate, slice_set, Ok, Err}
+use Rattle.std.specs.Prelude.{ℕ, suc, Option, Some, None, List, [], ◌∷◌, length, replicate, slice_set, Ok, Err}
 use Rattle.sql_grammar.specs.declared.ast.ExprAst.{ExprAst}
 use Rattle.typed_exprs.specs.Answer.{Answer}
 use Rattle.typed_exprs.specs.Scopes.{Columns, column_of}
