@@ -1,4 +1,5 @@
 pub mod SameLemmas
+pub mod NameLemmas
 pub mod MeaningSteps
 pub mod CallSteps
 pub mod MeaningExamples

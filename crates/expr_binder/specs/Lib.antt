@@ -1,4 +1,5 @@
 pub mod Same
+pub mod Alike
 pub mod Groups
 pub mod Meaning
 pub mod Calls

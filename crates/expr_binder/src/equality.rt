@@ -1,6 +1,7 @@
 //! When two expressions of a select are equal.
 
 ghost use Rattle.std.specs.Prelude.{◌≡◌, map, nat_eq};
+ghost use Rattle.expr_binder.specs.Alike as alike;
 ghost use Rattle.expr_binder.specs.Same as spec;
 
 use dfx_value::{Kind, Op, Text};
@@ -9,7 +10,30 @@ use sql_grammar::ast::{ExprAst, FnAst, NodeAst};
 use sqlite_items::Boxed;
 use typed_exprs::{Column, column_of};
 
+/// Whether two aliases, where both are written, are one.
+fn may_be_under(alias: &Option<Text>, other: &Option<Text>) -> bool
+    ensures { result ≡ alike.may_be_under alias.now other.now }
+{
+    match (alias, other) {
+        (Some(alias), Some(other)) => *alias == *other,
+        _ => true,
+    }
+}
+
+/// Whether two names are written so that they may name one column. No column is looked at.
+fn may_be_one(
+    alias: &Option<Text>,
+    name: &Text,
+    other_alias: &Option<Text>,
+    other_name: &Text,
+) -> bool
+    ensures { result ≡ alike.may_be_one alias.now name.now other_alias.now other_name.now }
+{
+    *name == *other_name && may_be_under(alias, other_alias)
+}
+
 /// Whether both names name one column, which each names alone.
+#[tactic(auto, using(crate::proofs::NameLemmas::unlike))]
 fn same_name(
     columns: &[Column],
     alias: &Option<Text>,
@@ -19,6 +43,10 @@ fn same_name(
 ) -> bool
     ensures { result ≡ spec.same_name columns.now alias.now name.now other_alias.now other_name.now }
 {
+    // Most names are unlike, and are told apart without a look at the columns.
+    if !may_be_one(alias, name, other_alias, other_name) {
+        return false;
+    }
     match (
         column_of(columns, 0, alias, name),
         column_of(columns, 0, other_alias, other_name),

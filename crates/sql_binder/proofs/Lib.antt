@@ -1,3 +1,4 @@
 pub mod SelectSteps
 pub mod AllGiven
+pub mod FirstKeys
 pub mod FirstNumbers

@@ -1,6 +1,7 @@
 pub mod Each
 pub mod Sources
 pub mod Items
+pub mod Firsts
 pub mod Grouped
 pub mod Unions
 pub mod Selects

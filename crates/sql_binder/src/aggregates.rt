@@ -1,12 +1,13 @@
 //! Aggregate calls, and HAVING.
 
-ghost use Rattle.std.specs.Prelude.{◌≡◌, IfOk, map, Some};
+ghost use Rattle.std.specs.Prelude.{◌≡◌, IfOk, map};
 ghost use Rattle.typed_exprs.specs.Answer.{Gives};
 ghost use Rattle.logical_build.specs.Calls.{argument as argument_of};
 ghost use Rattle.sql_binder.specs.Grouped as spec;
 
+use crate::scope::Scope;
 use dfx_value::{NoMemory, Seq};
-use expr_binder::{Column, Grouping, Unbound, add_calls, bind_expr, settle, tested};
+use expr_binder::{Column, Unbound, add_calls, bind_expr, settle, tested};
 use logical_build::argument;
 use scalar_exprs::Expr;
 use sql_grammar::ast::{ExprAst, ItemAst};
@@ -76,16 +77,15 @@ pub fn arguments(alloc: Global, columns: &[Column], calls: &[ExprAst]) -> Result
 /// The test of HAVING, which must be a truth.
 pub fn having(
     alloc: Global,
-    columns: &[Column],
-    over: &Grouping<'_>,
+    scope: &Scope<'_>,
     test: &Option<ExprAst>,
 ) -> Result<Option<Expr>, Unbound>
-    ensures { Gives result (spec.having columns.now (Some over.now) test.now) }
+    ensures { Gives result (spec.having scope.now.columns scope.now.over test.now) }
 {
     match test {
         None => Ok(None),
         Some(test) => {
-            let bound = bind_expr(alloc, columns, Some(over), test)?;
+            let bound = bind_expr(alloc, scope.columns(), scope.groups(), test)?;
             Ok(Some(tested(test.place, bound)?))
         }
     }

@@ -7,6 +7,7 @@ ghost use Rattle.sql_binder.specs.Selects as spec;
 use crate::aggregates::having;
 use crate::groups::keys;
 use crate::items::outputs;
+use crate::scope::Scope;
 use dfx_value::{Kind, Seq};
 use expr_binder::{Column, Grouping, Unbound};
 use logical_build::{Output, key_kinds};
@@ -35,13 +36,14 @@ pub fn bind_clauses(
 {
     let keys = keys(alloc, columns, select.groups.as_slice())?;
     let kinds = key_kinds(alloc, keys.as_slice())?;
-    let over = Grouping {
+    let groups = Grouping {
         keys: select.groups.as_slice(),
         kinds: kinds.as_slice(),
         calls,
     };
-    let outputs = outputs(alloc, columns, Some(&over), select.items.as_slice())?;
-    let test = having(alloc, columns, &over, &select.having)?;
+    let scope = Scope::of_groups(alloc, columns, groups)?;
+    let outputs = outputs(alloc, &scope, select.items.as_slice())?;
+    let test = having(alloc, &scope, &select.having)?;
     Ok(Clauses {
         keys,
         outputs,

@@ -9,6 +9,7 @@ ghost use Rattle.expr_binder.specs.Meaning.{column_kind};
 ghost use Rattle.sql_binder.specs.Each.{each};
 ghost use Rattle.sql_binder.specs.Items as spec;
 
+use crate::scope::Scope;
 use crate::sources::{is_under, is_unknown};
 use dfx_value::{Kind, NoMemory, Seq, Text};
 use expr_binder::{Column, Grouping, Refusal, Unbound, Why, bind_expr, column_of, settle};
@@ -31,18 +32,6 @@ pub fn is_column(columns: &[Column], number: usize, expr: &ExprAst) -> bool
     }
 }
 
-/// The number of the first key that is this column.
-fn key_of(columns: &[Column], number: usize, keys: &[ExprAst]) -> Option<usize>
-    ensures { result ≡ spec.key_from columns.now number 0 keys.now }
-{
-    for at in 0..keys.len() {
-        if is_column(columns, number, &keys[at]) {
-            return Some(at);
-        }
-    }
-    None
-}
-
 fn kind_of_key(kinds: &[Kind], at: usize) -> Kind
     ensures { result ≡ column_kind kinds.now at }
 {
@@ -63,18 +52,17 @@ fn own_column(alloc: Global, column: &Column, number: usize) -> Result<Output, N
     })
 }
 
-/// The first key that is this column.
+/// A column over groups: the first key that is it. NotGrouped where there is none.
 fn key_column(
     alloc: Global,
-    columns: &[Column],
     grouping: &Grouping<'_>,
+    key: Option<usize>,
     place: u32,
     column: &Column,
-    number: usize,
 ) -> Result<Output, Unbound>
-    ensures { Gives result (spec.of_key grouping.now place column.now.name (spec.key_from columns.now number 0 grouping.now.keys)) }
+    ensures { Gives result (spec.of_key grouping.now place column.now.name key) }
 {
-    match key_of(columns, number, grouping.keys) {
+    match key {
         None => Err(Unbound::from(Refusal::new(Why::NotGrouped, place))),
         Some(key) => Ok(Output {
             name: column.name.copy(alloc)?,
@@ -85,20 +73,16 @@ fn key_column(
 }
 
 /// A column that `*` gives: itself, or over groups the first key that is this column.
-fn star(
-    alloc: Global,
-    columns: &[Column],
-    over: Option<&Grouping<'_>>,
-    place: u32,
-    number: usize,
-) -> Result<Output, Unbound>
-    requires { number < length columns.now }
-    ensures { Gives result (spec.star columns.now (option_copied over.entry) place number) }
+fn star(alloc: Global, scope: &Scope<'_>, place: u32, number: usize) -> Result<Output, Unbound>
+    requires { number < length scope.now.columns }
+    ensures { Gives result (spec.star scope.now.columns scope.now.over place number) }
 {
-    let column = &columns[number];
-    match over {
+    let column = &scope.columns()[number];
+    match scope.groups() {
         None => Ok(own_column(alloc, column, number)?),
-        Some(grouping) => key_column(alloc, columns, grouping, place, column, number),
+        Some(grouping) => {
+            key_column(alloc, grouping, scope.key_of_column(number), place, column)
+        }
     }
 }
 
@@ -128,17 +112,16 @@ fn given(alloc: Global, columns: &[Column], alias: Option<&Text>) -> Result<Vec<
 
 fn stars_of(
     alloc: Global,
-    columns: &[Column],
-    over: Option<&Grouping<'_>>,
+    scope: &Scope<'_>,
     place: u32,
     numbers: &[usize],
 ) -> Result<Seq<Output>, Unbound>
-    requires { All (λ n. n < length columns.now) numbers.now }
-    ensures { Gives result (each (spec.star columns.now (option_copied over.entry) place) numbers.now) }
+    requires { All (λ n. n < length scope.now.columns) numbers.now }
+    ensures { Gives result (each (spec.star scope.now.columns scope.now.over place) numbers.now) }
 {
     let mut outputs = Vec::with_capacity(alloc, numbers.len())?;
     for number in numbers {
-        outputs.push(star(alloc, columns, over, place, *number)?)?;
+        outputs.push(star(alloc, scope, place, *number)?)?;
     }
     Ok(Seq::from_vec(outputs))
 }
@@ -146,18 +129,17 @@ fn stars_of(
 /// The columns that `*`, or `alias.*`, gives. UnknownTable where no table has the alias.
 fn stars(
     alloc: Global,
-    columns: &[Column],
-    over: Option<&Grouping<'_>>,
+    scope: &Scope<'_>,
     place: u32,
     alias: Option<&Text>,
 ) -> Result<Seq<Output>, Unbound>
-    ensures { Gives result (spec.stars columns.now (option_copied over.entry) place (option_copied alias.entry)) }
+    ensures { Gives result (spec.stars scope.now.columns scope.now.over place (option_copied alias.entry)) }
 {
-    if is_unknown(alias, columns) {
+    if is_unknown(alias, scope.columns()) {
         return Err(Unbound::from(Refusal::new(Why::UnknownTable, place)));
     }
-    let numbers = given(alloc, columns, alias)?;
-    stars_of(alloc, columns, over, place, &numbers)
+    let numbers = given(alloc, scope.columns(), alias)?;
+    stars_of(alloc, scope, place, &numbers)
 }
 
 /// `c` and a position.
@@ -188,15 +170,14 @@ fn item_name(
 /// The one column of an item that is an expression.
 fn expr_output(
     alloc: Global,
-    columns: &[Column],
-    over: Option<&Grouping<'_>>,
+    scope: &Scope<'_>,
     position: usize,
     expr: &ExprAst,
     name: &Option<Text>,
 ) -> Result<Output, Unbound>
-    ensures { Gives result (spec.expr_output columns.now (option_copied over.entry) position expr.now name.now) }
+    ensures { Gives result (spec.expr_output scope.now.columns scope.now.over position expr.now name.now) }
 {
-    let (bound, kind) = settle(bind_expr(alloc, columns, over, expr)?);
+    let (bound, kind) = settle(bind_expr(alloc, scope.columns(), scope.groups(), expr)?);
     Ok(Output {
         name: item_name(alloc, position, expr, name)?,
         expr: bound,
@@ -215,18 +196,17 @@ fn one_output(alloc: Global, output: Output) -> Result<Seq<Output>, NoMemory>
 /// The columns of an item that begins at a position.
 fn outputs_of(
     alloc: Global,
-    columns: &[Column],
-    over: Option<&Grouping<'_>>,
+    scope: &Scope<'_>,
     position: usize,
     item: &ItemAst,
 ) -> Result<Seq<Output>, Unbound>
-    ensures { Gives result (spec.outputs_of columns.now (option_copied over.entry) position item.now) }
+    ensures { Gives result (spec.outputs_of scope.now.columns scope.now.over position item.now) }
 {
     match item {
-        ItemAst::All { place } => stars(alloc, columns, over, *place, None),
-        ItemAst::AllOf { name, place } => stars(alloc, columns, over, *place, Some(name)),
+        ItemAst::All { place } => stars(alloc, scope, *place, None),
+        ItemAst::AllOf { name, place } => stars(alloc, scope, *place, Some(name)),
         ItemAst::One { expr, name } => {
-            let output = expr_output(alloc, columns, over, position, expr, name)?;
+            let output = expr_output(alloc, scope, position, expr, name)?;
             Ok(one_output(alloc, output)?)
         }
     }
@@ -284,17 +264,16 @@ fn place_of_item(item: &ItemAst) -> u32
 /// bound.
 fn outputs_behind(
     alloc: Global,
-    columns: &[Column],
-    over: Option<&Grouping<'_>>,
+    scope: &Scope<'_>,
     before: usize,
     item: &ItemAst,
 ) -> Result<Seq<Output>, Unbound>
-    ensures { Gives result (spec.outputs_behind columns.now (option_copied over.entry) before item.now) }
+    ensures { Gives result (spec.outputs_behind scope.now.columns scope.now.over before item.now) }
 {
-    if are_too_many(before, width_of(columns, item)) {
+    if are_too_many(before, width_of(scope.columns(), item)) {
         return Err(Unbound::from(Refusal::new(Why::Unsupported, place_of_item(item))));
     }
-    outputs_of(alloc, columns, over, before + 1, item)
+    outputs_of(alloc, scope, before + 1, item)
 }
 
 fn appended(done: Seq<Output>, more: Seq<Output>) -> Result<Seq<Output>, NoMemory>
@@ -307,17 +286,12 @@ fn appended(done: Seq<Output>, more: Seq<Output>) -> Result<Seq<Output>, NoMemor
 }
 
 /// The columns of all items, in order.
-pub fn outputs(
-    alloc: Global,
-    columns: &[Column],
-    over: Option<&Grouping<'_>>,
-    items: &[ItemAst],
-) -> Result<Seq<Output>, Unbound>
-    ensures { Gives result (spec.outputs columns.now (option_copied over.entry) items.now) }
+pub fn outputs(alloc: Global, scope: &Scope<'_>, items: &[ItemAst]) -> Result<Seq<Output>, Unbound>
+    ensures { Gives result (spec.outputs scope.now.columns scope.now.over items.now) }
 {
     let mut done = Seq::from_vec(Vec::new(alloc));
     for item in items {
-        let more = outputs_behind(alloc, columns, over, done.len(), item)?;
+        let more = outputs_behind(alloc, scope, done.len(), item)?;
         done = appended(done, more)?;
     }
     Ok(done)

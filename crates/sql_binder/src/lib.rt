@@ -7,6 +7,7 @@ mod clauses;
 mod groups;
 mod items;
 mod orders;
+mod scope;
 mod selected;
 mod selects;
 mod sources;

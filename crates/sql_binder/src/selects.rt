@@ -1,14 +1,16 @@
 //! Selects, and the tree of them.
 
-ghost use Rattle.std.specs.Prelude.{◌≡◌, IfOk, map};
+ghost use Rattle.std.specs.Prelude.{◌≡◌, IfOk, None, map};
 ghost use Rattle.typed_exprs.specs.Answer.{Gives};
 ghost use Rattle.sql_binder.specs.Each.{each};
+ghost use Rattle.sql_binder.specs.Items.{outputs as outputs_of};
 ghost use Rattle.sql_binder.specs.Selects as spec;
 ghost use Rattle.sql_binder.specs.Sources as sources;
 
 use crate::aggregates::{arguments, calls, is_grouped};
 use crate::clauses::{Clauses, bind_clauses};
 use crate::items::outputs;
+use crate::scope::Scope;
 use crate::selected::Selected;
 use crate::sources::{Source, derived, filtered, has_alias, join_sources, table};
 use crate::unions::united;
@@ -40,6 +42,17 @@ fn projected(
     })
 }
 
+fn outputs_over_columns(
+    alloc: Global,
+    columns: &[Column],
+    items: &[ItemAst],
+) -> Result<Seq<Output>, Unbound>
+    ensures { Gives result (outputs_of columns.now None items.now) }
+{
+    let scope = Scope::of_columns(alloc, columns);
+    outputs(alloc, &scope, items)
+}
+
 /// The items over the rows themselves.
 fn plain(
     alloc: Global,
@@ -49,7 +62,7 @@ fn plain(
 ) -> Result<Selected, Unbound>
     ensures { Gives result (spec.plain distinct items.now source) }
 {
-    let found = outputs(alloc, source.columns.as_slice(), None, items)?;
+    let found = outputs_over_columns(alloc, source.columns.as_slice(), items)?;
     Ok(projected(alloc, distinct, source.columns, found, source.body)?)
 }
 
