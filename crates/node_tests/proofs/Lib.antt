@@ -1,1 +1,4 @@
 mod NeedExamples
+mod PlansByHand
+mod DeclaredExamples
+mod ShapeExamples

@@ -1,11 +1,19 @@
 //! That needs are tested with ample memory. proofs/NeedExamples.antt has worked examples of what satisfies them.
-use crate::nodes::ascending;
+use dfx_value::SortKey;
 use plan_props::{
     Distribution, Partitioning, Props, partition_count, satisfies_distribution, satisfies_order,
 };
 use sqlite_items::Items;
 use std::alloc::Global;
 use std::test::Fail;
+
+pub const fn ascending(column: u32) -> SortKey {
+    SortKey {
+        column,
+        descending: false,
+        nulls_first: false,
+    }
+}
 
 /// Rows that are hashed by a column into four partitions, each in the order of another.
 fn declared(alloc: Global) -> Result<Props, Fail> {
