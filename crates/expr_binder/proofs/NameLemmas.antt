@@ -1,12 +1,17 @@
 -- Names that name one column are written alike.
-use Rattle.std.proofs.Common.{◌≡◌, refl, sym, ◌∙◌, ap, ℕ, suc, ◌≤◌, Bool, true, false, ◌&&◌, Option, Some, None, List, [], ◌∷◌, arith}
+use Rattle.std.proofs.Common.{◌≡◌, refl, sym, ◌∙◌, ap, ℕ, suc, ◌≤◌, Bool, true, false, ◌&&◌, Option, Some, None, List, [], ◌∷◌, map, nat_eq, arith}
 use Rattle.std.proofs.lemmas.Bool.{eqb-true}
 use Rattle.std.proofs.lemmas.Cmp.{nat_list_eq_equiv}
 use Rattle.typed_exprs.specs.declared.refusal.Why.TheVariants as why
 use Rattle.typed_exprs.specs.declared.scope.Column.{Column}
 use Rattle.typed_exprs.specs.Answer.{refuse_if}
 use Rattle.typed_exprs.specs.Scopes.{Columns, is_text, is_under, is_named, is_unknown, with_if, numbers_from, numbers, the_one}
-use Rattle.expr_binder.specs.Same.{same_column, same_name}
+use Rattle.sql_grammar.specs.declared.ast.FnAst.{FnAst}
+use Rattle.sql_grammar.specs.declared.ast.ExprAst.{ExprAst}
+use Rattle.sql_grammar.specs.declared.ast.NodeAst.{NodeAst, out-NodeAst}
+use Rattle.sql_grammar.specs.declared.ast.NodeAst.TheVariants as node
+use Rattle.sql_grammar.specs.declared.ast.NodeAst.TheFolds.{fold_out-NodeAst, map-NodeAst}
+use Rattle.expr_binder.specs.Same.{Is, same_column, same_name, function_rank, all_same, same, same_nodes, same_node, same_expr, same_layer}
 use Rattle.expr_binder.specs.Alike.{may_be_under, may_be_one}
 
 -- ---- two texts that are a third
@@ -80,3 +85,27 @@ unlike cs p a q b h = go (same_name cs p a q b) (names_one cs p a q b)
     go : (s : Bool) → (s ≡ true → may_be_one p a q b ≡ true) → false ≡ s
     go true f = let e = f refl in cc
     go false f = refl
+
+-- ---- nodes
+
+same_nodes-is : (cs : Columns) (n m : NodeAst) → same_nodes cs n m ≡ same_layer cs (map-NodeAst NodeAst ExprAst (NodeAst → Bool) Is (same_nodes cs) (same cs) (out-NodeAst n)) (out-NodeAst m)
+same_nodes-is cs n m = ap (λ (s : NodeAst → Bool). s m) (fold_out-NodeAst (NodeAst → Bool) Is (same_node cs) same_expr n)
+
+names_are : (cs : Columns) (p : Option (List ℕ)) (a : List ℕ) (q : Option (List ℕ)) (b : List ℕ) → same_nodes cs (node.Name p a) (node.Name q b) ≡ same_name cs p a q b
+names_are cs p a q b = simp (same_nodes-is, node.outs-Name)
+
+calls_are : (cs : Columns) (f : FnAst) (xs : List ExprAst) (g : FnAst) (ys : List ExprAst)
+    → same_nodes cs (node.Call f xs) (node.Call g ys) ≡ (nat_eq (function_rank f) (function_rank g) && all_same (map (same cs) xs) ys)
+calls_are cs f xs g ys = simp (same_nodes-is, node.outs-Call)
+
+pub unlike_names : (cs : Columns) (p : Option (List ℕ)) (a : List ℕ) (q : Option (List ℕ)) (b : List ℕ) → may_be_one p a q b ≡ false
+    → false ≡ same_nodes cs (node.Name p a) (node.Name q b)
+unlike_names cs p a q b h = unlike cs p a q b h ∙ sym (names_are cs p a q b)
+
+pub unlike_calls : (cs : Columns) (f : FnAst) (xs : List ExprAst) (g : FnAst) (ys : List ExprAst) → false ≡ all_same (map (same cs) xs) ys
+    → false ≡ same_nodes cs (node.Call f xs) (node.Call g ys)
+unlike_calls cs f xs g ys h = go (nat_eq (function_rank f) (function_rank g)) ∙ sym (calls_are cs f xs g ys)
+  where
+    go : (b : Bool) → false ≡ (b && all_same (map (same cs) xs) ys)
+    go true = h
+    go false = refl

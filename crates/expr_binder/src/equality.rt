@@ -1,7 +1,8 @@
 //! When two expressions of a select are equal.
 
-ghost use Rattle.std.specs.Prelude.{◌≡◌, map, nat_eq};
-ghost use Rattle.expr_binder.specs.Alike as alike;
+ghost use Rattle.std.specs.Prelude.{◌≡◌, false, map, nat_eq};
+ghost use Rattle.typed_exprs.specs.Scopes.{Columns};
+ghost use Rattle.expr_binder.specs.Alike as written;
 ghost use Rattle.expr_binder.specs.Same as spec;
 
 use dfx_value::{Kind, Op, Text};
@@ -12,7 +13,7 @@ use typed_exprs::{Column, column_of};
 
 /// Whether two aliases, where both are written, are one.
 fn may_be_under(alias: &Option<Text>, other: &Option<Text>) -> bool
-    ensures { result ≡ alike.may_be_under alias.now other.now }
+    ensures { result ≡ written.may_be_under alias.now other.now }
 {
     match (alias, other) {
         (Some(alias), Some(other)) => *alias == *other,
@@ -27,7 +28,7 @@ fn may_be_one(
     other_alias: &Option<Text>,
     other_name: &Text,
 ) -> bool
-    ensures { result ≡ alike.may_be_one alias.now name.now other_alias.now other_name.now }
+    ensures { result ≡ written.may_be_one alias.now name.now other_alias.now other_name.now }
 {
     *name == *other_name && may_be_under(alias, other_alias)
 }
@@ -152,12 +153,63 @@ pub fn same(columns: &[Column], left: &ExprAst, right: &ExprAst) -> bool
     same_node(columns, &left.node, &right.node)
 }
 
+#[cycle(alike)]
+fn all_alike(left: &[ExprAst], right: &[ExprAst]) -> bool
+    ensures { result ≡ false → (columns : Columns) → false ≡ spec.all_same (map (spec.same columns) left.now) right.now }
+{
+    if left.len() != right.len() {
+        return false;
+    }
+    for at in 0..left.len() {
+        if !alike(&left[at], &right[at]) {
+            return false;
+        }
+    }
+    true
+}
+
+#[cycle(alike)]
+fn alike_node(left: &NodeAst, right: &NodeAst) -> bool
+    ensures { result ≡ false → (columns : Columns) → false ≡ spec.same_nodes columns left.now right.now }
+{
+    match (left, right) {
+        (NodeAst::Number(a), NodeAst::Number(b)) => *a == *b,
+        (NodeAst::Str(a), NodeAst::Str(b)) => *a == *b,
+        (NodeAst::Null, NodeAst::Null) => true,
+        (NodeAst::Truth(a), NodeAst::Truth(b)) => *a == *b,
+        (NodeAst::Name(p, a), NodeAst::Name(q, b)) => may_be_one(p, a, q, b),
+        (NodeAst::Call(f, a), NodeAst::Call(g, b)) => {
+            same_function(*f, *g) && all_alike(a.as_slice(), b.as_slice())
+        }
+        (NodeAst::CountAll, NodeAst::CountAll) => true,
+        (NodeAst::Not(a), NodeAst::Not(b)) => alike(a.get(), b.get()),
+        (NodeAst::Neg(a), NodeAst::Neg(b)) => alike(a.get(), b.get()),
+        (NodeAst::IsNull(a), NodeAst::IsNull(b)) => alike(a.get(), b.get()),
+        (NodeAst::Binary(o, a, b), NodeAst::Binary(p, c, d)) => {
+            same_op(*o, *p) && alike(a.get(), c.get()) && alike(b.get(), d.get())
+        }
+        (NodeAst::Case(_, _), NodeAst::Case(_, _)) => true,
+        (NodeAst::Cast(a, j), NodeAst::Cast(b, k)) => {
+            same_kind(*j, *k) && alike(a.get(), b.get())
+        }
+        _ => false,
+    }
+}
+
+/// Whether two expressions may be equal, by how they are written. No column is looked at.
+#[cycle(alike)]
+fn alike(left: &ExprAst, right: &ExprAst) -> bool
+    ensures { result ≡ false → (columns : Columns) → false ≡ spec.same columns left.now right.now }
+{
+    alike_node(&left.node, &right.node)
+}
+
 /// The first place, from 0, of an expression that is this one.
 pub fn place_among(columns: &[Column], expr: &ExprAst, among: &[ExprAst]) -> Option<usize>
     ensures { result ≡ spec.place_among columns.now expr.now among.now }
 {
     for (place, other) in among.iter().enumerate() {
-        if same(columns, expr, other) {
+        if alike(expr, other) && same(columns, expr, other) {
             return Some(place);
         }
     }
