@@ -1,6 +1,6 @@
 //! The command.
 
-ghost use Rattle.std.specs.Prelude.{◌≡◌, ◌≤◌, ◌⊎◌, ℕ, List, [], Ok, Err, Some, None, IfErr};
+ghost use Rattle.std.specs.Prelude.{◌≡◌, ◌<◌, ◌≤◌, ◌⊎◌, ℕ, List, [], Ok, Err, Some, None, IfErr};
 ghost use Rattle.dfx_outside.specs.Causes.{Rose};
 ghost use Rattle.dfx_outside.specs.Bytes.{EndsInFront};
 ghost use Rattle.dfx_outside.specs.Contents.{Contents};
@@ -40,12 +40,13 @@ pub struct Finished<F, K, E> {
 }
 
 /// The number of partitions of a request.
-fn partitions_for(request: Request) -> Partitions
-    ensures { result ≡ spec.partitions_for request }
+fn partitions_for(request: Request) -> u32
+    ensures same { result ≡ spec.partitions_for request }
+    ensures some { 0 < result }
 {
     match request {
-        Request::Query => Partitions::usual(),
-        Request::Explain { partitions } => partitions,
+        Request::Query => Partitions::usual().count(),
+        Request::Explain { partitions } => partitions.count(),
     }
 }
 
@@ -94,7 +95,7 @@ fn answer_text<F: Files, K: Sink>(
         → IsTextRefused refusal (of_result result) × (K.told sink.new ≡ K.told sink.old) }
     ensures words { result ≡ Err failure.Words → ⊥ }
 {
-    let prepared = prepare(alloc, text, files, partitions_for(request).count())?;
+    let prepared = prepare(alloc, text, files, partitions_for(request))?;
     answer_prepared(alloc, request, &prepared, files, sink)
 }
 
