@@ -2,8 +2,4 @@
 #![tactic(auto)]
 
 #[cfg(test)]
-mod read;
-#[cfg(test)]
-mod shown;
-#[cfg(test)]
-mod tests;
+mod lowered;

@@ -1,0 +1,3 @@
+mod ExprTextExamples
+mod LineNodes
+mod NodeTextExamples

@@ -2,8 +2,4 @@
 #![tactic(auto)]
 
 #[cfg(test)]
-mod exprs;
-#[cfg(test)]
-mod nodes;
-#[cfg(test)]
-mod shown;
+mod texts;
