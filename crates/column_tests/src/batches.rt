@@ -4,20 +4,17 @@ ghost use Rattle.std.specs.Prelude.{◌≡◌, ◌∷◌, [], true, IfOk};
 ghost use Rattle.dfx_value.specs.Kinds.{are_of};
 ghost use Rattle.dfx_value.specs.declared.kind.Kind.TheVariants as kind;
 
+use crate::cells::{int_or_null, text as text_cell};
 use column_batch::{Batch, Builder, Cell, Column, Shared, push_printed};
-use dfx_value::{Kind, Row, Text, Value};
+use dfx_value::{Kind, Row, Value};
 use std::alloc::Global;
 use std::test::Fail;
 
 fn pair(alloc: Global, number: Option<i64>, text: &str) -> Result<Row, Fail>
     ensures { IfOk result (λ row. are_of (kind.Int ∷ kind.Text ∷ []) row ≡ true) }
 {
-    let first = match number {
-        Some(number) => Value::Int(number),
-        None => Value::Null,
-    };
-    let text = Text::from_string(String::from_str(alloc, text)?);
-    let cells = vec![in alloc; first, Value::Text(text)]?;
+    let text = text_cell(String::from_str(alloc, text)?);
+    let cells = vec![in alloc; int_or_null(number), text]?;
     Ok(Row { cells })
 }
 

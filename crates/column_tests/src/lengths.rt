@@ -1,30 +1,42 @@
 //! Batches about the lengths at which words and blocks end, with NULLs; parts that outlive what they were taken from.
 
 ghost use Rattle.std.specs.Prelude.{◌≡◌, ◌<◌, ◌^◌, [], ◌∷◌, length, true, IfOk};
-ghost use Rattle.dfx_value.specs.Kinds.{are_of};
+ghost use Rattle.dfx_value.specs.Kinds.{are_of, is_of};
 ghost use Rattle.dfx_value.specs.declared.kind.Kind.TheVariants as kind;
 
+use crate::cells::{int, text};
 use column_batch::{Batch, Builder};
-use dfx_value::{Kind, Row, Text, Value};
+use dfx_value::{Kind, Row, Value};
 use std::alloc::Global;
 use std::fmt::Write;
 use std::test::Fail;
 
-/// A number but for every third, and a text but for every fifth.
+/// A number but for every third.
+fn number_at(at: u32) -> Value
+    ensures { is_of kind.Int result ≡ true }
+{
+    if at % 3 == 2 {
+        Value::Null
+    } else {
+        int(-i64::from(at))
+    }
+}
+
+/// A text but for every fifth.
+fn text_at(alloc: Global, at: u32) -> Result<Value, Fail>
+    ensures { IfOk result (λ value. is_of kind.Text value ≡ true) }
+{
+    if at % 5 == 4 {
+        Ok(Value::Null)
+    } else {
+        Ok(text(format!(in alloc; "é{at}")?))
+    }
+}
+
 fn numbered_row(alloc: Global, at: u32) -> Result<Row, Fail>
     ensures { IfOk result (λ row. are_of (kind.Int ∷ kind.Text ∷ []) row ≡ true) }
 {
-    let number = if at % 3 == 2 {
-        Value::Null
-    } else {
-        Value::Int(-i64::from(at))
-    };
-    let text = if at % 5 == 4 {
-        Value::Null
-    } else {
-        Value::Text(Text::from_string(format!(in alloc; "é{at}")?))
-    };
-    let cells = vec![in alloc; number, text]?;
+    let cells = vec![in alloc; number_at(at), text_at(alloc, at)?]?;
     Ok(Row { cells })
 }
 

@@ -4,6 +4,8 @@
 #[cfg(test)]
 mod batches;
 #[cfg(test)]
+mod cells;
+#[cfg(test)]
 mod columns;
 #[cfg(test)]
 mod lengths;

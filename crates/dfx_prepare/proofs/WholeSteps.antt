@@ -1,6 +1,11 @@
 -- What is prepared over the files of the tables.
 use Rattle.std.proofs.Common.{◌≡◌, sym, ap, ◌∙◌, ℕ, List, length, Result, Ok, Err, IfOk, IfErr, subst}
 use Rattle.sql_grammar.specs.declared.ast.Script.{Script}
+use Rattle.typed_exprs.specs.Answer.{Answer}
+use Rattle.typed_exprs.specs.declared.refused.BindRefused.{BindRefused}
+use Rattle.logical_plan.specs.declared.query.Query.{Query}
+use Rattle.sql_binder.specs.Refusals.{IsBound}
+use Rattle.planned_laws.specs.Queries.{QueryInRange}
 use Rattle.dfx_prepare.specs.Outcomes.{OrMemory, Answers, IsReading, IsListing, IsQuerying, IsPreparing}
 use Rattle.dfx_prepare.specs.Preparing.{Path, followed, prepared_over, IsOf, IsOfScript}
 use Rattle.failure_text.specs.declared.failure.Failure.{Failure}
@@ -26,6 +31,12 @@ answer_goes_on e x next r is h = rw (is) h
 pub if_ok_as : {A E : Type 0} (P : A → Type 0) (x : A) (r : Result A E) → P x → IfOk r (λ y. y ≡ x) → IfOk r P
 if_ok_as P x (Ok y) h is = subst P (sym is) h
 if_ok_as P x (Err e) h is = tt
+
+-- what a script means is in range, so what is bound is
+pub in_range : (r : Result Query BindRefused) (b : Answer Query) → IsBound r b → ((q : Query) → b ≡ Ok q → QueryInRange q)
+    → IfOk r QueryInRange
+in_range (Ok q) b h law = law q h
+in_range (Err e) b h law = tt
 
 -- ---- failures of the parts
 

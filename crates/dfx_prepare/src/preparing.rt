@@ -5,6 +5,8 @@ ghost use Rattle.dfx_outside.specs.Causes.{Rose};
 ghost use Rattle.dfx_outside.specs.Contents.{Contents};
 ghost use Rattle.sql_lexer.specs.Parts.{IsToken};
 ghost use Rattle.sql_grammar.specs.Parsed.{parsed};
+ghost use Rattle.sql_binder.specs.Bound.{bound};
+ghost use Rattle.sql_binder.specs.Refusals.{IsBound};
 ghost use Rattle.planned_laws.specs.Queries.{QueryInRange};
 ghost use Rattle.planned_laws.specs.Wholly.{IsWhollyPlanned};
 ghost use Rattle.dfx_prepare.specs.Outcomes.{Answers, IsPreparing, IsQuerying, IsReading, OrMemory};
@@ -30,6 +32,7 @@ use sql_grammar::SyntaxRefused;
 use sql_grammar::ast::Script;
 use sql_lexer::{LexRefused, Token, tokens};
 use sql_parser::parse_script;
+use sql_tables::Schema;
 use std::alloc::Global;
 
 fn script_of_tokens(alloc: Global, text: &[u8], tokens: &[Token]) -> Result<Script, Failure>
@@ -58,6 +61,15 @@ fn script_of(alloc: Global, text: &[u8]) -> Result<Script, Failure>
     }
 }
 
+/// The query of a script over tables of these schemas. Its columns are in range.
+fn bound_query(alloc: Global, script: &Script, schemas: &[Schema]) -> Result<Query, BindRefused>
+    ensures bound { IsBound result (bound script.now schemas.now) }
+    ensures ranges { IfOk result QueryInRange }
+{
+    binder_law();
+    bind(alloc, script, schemas)
+}
+
 /// The query of a script over its tables, or its first refusal.
 #[tactic(auto, unfolding(crate::specs::Preparing::query_of))]
 fn query_of(alloc: Global, script: &Script) -> Result<Query, Failure>
@@ -65,9 +77,8 @@ fn query_of(alloc: Global, script: &Script) -> Result<Query, Failure>
     ensures ranges { IfOk result QueryInRange }
     ensures querying { IfErr result IsQuerying }
 {
-    binder_law();
     let schemas = schemas_of(alloc, script.tables.as_slice())?;
-    match bind(alloc, script, schemas.as_slice()) {
+    match bound_query(alloc, script, schemas.as_slice()) {
         Ok(query) => Ok(query),
         Err(BindRefused::NoMemory) => Err(Failure::NoMemory),
         Err(refused) => Err(Failure::Binder(refused)),

@@ -58,14 +58,23 @@ fn grouping(alloc: Global) -> Result<Plan, Fail> {
     })
 }
 
+fn copied(alloc: Global) -> Result<Plan, Fail> {
+    Ok(copy_plan(alloc, &grouping(alloc)?)?)
+}
+
+/// How many tasks, stages' tasks and keys of the order a plan has.
+fn counts(alloc: Global, plan: &Plan) -> Result<(usize, usize, usize), Fail> {
+    let tasks = shape(alloc, plan)?.tasks().len();
+    let places = stages(alloc, plan)?.len();
+    Ok((tasks, places, props(alloc, plan)?.ordering.len()))
+}
+
 #[test]
 fn plans(rt: HostRuntime) -> Result<(), Fail> {
-    let alloc = rt.alloc();
-    let plan = copy_plan(alloc, &grouping(alloc)?)?;
+    let plan = copied(rt.alloc())?;
     assert_eq!(rt; partitions(&plan), 1);
-    assert_eq!(rt; shape(alloc, &plan)?.tasks().len(), 6);
-    assert_eq!(rt; stages(alloc, &plan)?.len(), 6);
-    assert_eq!(rt; props(alloc, &plan)?.ordering.len(), 1);
+    let (tasks, places, keys) = counts(rt.alloc(), &plan)?;
+    assert_eq!(rt; (tasks, places, keys), (6, 6, 1));
     Ok(())
 }
 

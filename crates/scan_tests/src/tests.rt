@@ -69,7 +69,7 @@ fn nothing_is_written_where_a_file_is_absent(rt: HostRuntime) -> Result<(), Fail
     let mut sink = MemSink::new(alloc, Vec::new(alloc));
     let refused = refused(alloc, &mut files, &mut sink)?;
     assert!(rt; refused == Some(RunRefused::Missing { file: 1 }));
-    assert!(rt; sink.bytes() == b"");
+    assert!(rt; sink.bytes().is_empty());
     assert_eq!(rt; files.faults(), 0);
     Ok(())
 }
@@ -81,7 +81,7 @@ fn the_first_file_is_written_where_the_second_fails(rt: HostRuntime) -> Result<(
     let mut sink = MemSink::new(alloc, Vec::new(alloc));
     let refused = refused(alloc, &mut files, &mut sink)?;
     assert!(rt; refused == Some(RunRefused::Read));
-    assert!(rt; sink.bytes() == b"p,q\n1,x\n");
+    assert!(rt; sink.bytes() == b"p,q\n1,x\n".as_slice());
     assert_eq!(rt; files.faults(), 1);
     Ok(())
 }
