@@ -1,1 +1,4 @@
 mod ValueExamples
+mod TokenExamples
+mod LineExamples
+mod JournalExamples
