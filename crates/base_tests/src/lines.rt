@@ -1,6 +1,6 @@
 //! That lines are made with ample memory. proofs/LineExamples.antt has worked lines.
 
-ghost use Rattle.std.specs.Prelude.{◌≡◌, ◌∷◌, [], IfOk};
+ghost use Rattle.std.specs.Prelude.{◌≡◌, ◌∷◌, [], IfOk, IsUtf8};
 ghost use Rattle.dfx_value.specs.declared.kind.Kind.TheVariants as kind;
 
 use dfx_value::{Batch, Builder, Kind, Row, Text, Value};
@@ -8,7 +8,9 @@ use result_text::{header_text, rows_text};
 use std::alloc::Global;
 use std::test::Fail;
 
-fn text_of(alloc: Global, text: &str) -> Result<Text, Fail> {
+fn text_of(alloc: Global, text: &str) -> Result<Text, Fail>
+    ensures { IfOk result (λ text. IsUtf8 text) }
+{
     Ok(Text::from_string(String::from_str(alloc, text)?))
 }
 
@@ -21,6 +23,7 @@ fn a_header(rt: HostRuntime) -> Result<(), Fail> {
 }
 
 /// A batch of a text in want of quotes and a number, and a row of NULLs.
+#[tactic(auto, using(dfx_value::proofs::ParseLemmas::utf8_tests))]
 fn some_rows(alloc: Global) -> Result<Batch, Fail>
     ensures { IfOk result (λ batch. batch.kinds ≡ kind.Text ∷ kind.Int ∷ []) }
 {
