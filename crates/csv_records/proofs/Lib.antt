@@ -1,0 +1,5 @@
+pub mod RecordSteps
+pub mod BlockSteps
+pub mod RunSteps
+pub mod WindowSteps
+pub mod SpanSteps
