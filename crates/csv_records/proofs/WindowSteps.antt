@@ -74,6 +74,14 @@ stays b n k =
     let few : n + k - n ≡ k = omega arith in
     take-add n k b ∙ ap (λ i. take n b ++ take i (drop n b)) (sym few)
 
+-- a front with the next part behind it
+pub front_more : (v b : List ℕ) (n k : ℕ) → take n b ≡ take n v → slice_range b n (n + k) ≡ take k (drop n v) → take (n + k) b ≡ take (n + k) v
+front_more v b n k front part =
+    stays b n k
+    ∙ ap (λ (xs : List ℕ). xs ++ slice_range b n (n + k)) front
+    ∙ ap (λ (xs : List ℕ). take n v ++ xs) part
+    ∙ sym (take-add n k v)
+
 pub begins_part : (b : List ℕ) (base w n : ℕ) → base ≤ w → w ≤ n → n ≤ length b → Begins (slice_range b base w) (slice_range b base n)
 begins_part b base w n h l within =
     let size : length (slice_range b base w) ≡ w - base = length-part b base w h (omega arith) in

@@ -8,7 +8,7 @@ ghost use Rattle.csv_records.specs.Left.{bytes_left, count_left};
 ghost use Rattle.csv_records.specs.Marks.{mark};
 ghost use Rattle.csv_records.specs.Windows.{Begins};
 
-use dfx_outside::{Failed, OutsideRefused, Source, read_front};
+use dfx_outside::{Failed, OutsideRefused, Source};
 use std::alloc::{AllocError, Global};
 use std::marker::Model;
 
@@ -54,21 +54,6 @@ fn after_mark(bytes: &[u8]) -> usize
     }
 }
 
-/// Reads a beginning of the source into that of a block, `room` bytes or all that there are, and answers how many.
-fn first_block<S: Source>(source: &mut S, block: &mut [u8], room: usize) -> Result<usize, Failed>
-    requires { room ≤ length block.old }
-    ensures within { IfOk result (λ n. n ≤ room) }
-    ensures kept { length block.new ≡ length block.old }
-    ensures front { (v : List ℕ) → S.told source.old ≡ Some v
-        → IfOk result (λ n. take n block.new ≡ take n v) }
-    ensures whole { (v : List ℕ) → S.told source.old ≡ Some v
-        → IfOk result (λ n. min room (length v) ≤ n) }
-    ensures same { (S.told source.new ≡ S.told source.old) × (S.size source.new ≡ S.size source.old) }
-    ensures cause { HasCause (S.faults source.old) (S.faults source.new) result }
-{
-    read_front(source, &mut block[..room])
-}
-
 /// Reads the bytes from `at` into a block behind so many that stay, `room` at most, and answers how many.
 fn read_behind<S: Source>(
     source: &mut S,
@@ -89,6 +74,30 @@ fn read_behind<S: Source>(
     ensures cause { HasCause (S.faults source.old) (S.faults source.new) result }
 {
     source.read_at(at, &mut block[kept..kept + room])
+}
+
+/// Reads a beginning of the source into that of a block, `room` bytes or up to the first read that gives none, and answers
+/// how many.
+fn first_block<S: Source>(source: &mut S, block: &mut [u8], room: usize) -> Result<usize, Failed>
+    requires { room ≤ length block.old }
+    ensures within { IfOk result (λ n. n ≤ room) }
+    ensures kept { length block.new ≡ length block.old }
+    ensures front { (v : List ℕ) → S.told source.old ≡ Some v
+        → IfOk result (λ n. take n block.new ≡ take n v) }
+    ensures whole { (v : List ℕ) → S.told source.old ≡ Some v
+        → IfOk result (λ n. min room (length v) ≤ n) }
+    ensures same { (S.told source.new ≡ S.told source.old) × (S.size source.new ≡ S.size source.old) }
+    ensures cause { HasCause (S.faults source.old) (S.faults source.new) result }
+{
+    let mut at = 0;
+    while at < room {
+        let count = read_behind(source, at as u64, block, at, room - at)?;
+        if count == 0 {
+            break;
+        }
+        at += count;
+    }
+    Ok(at)
 }
 
 /// Moves a part of a block to its beginning.
