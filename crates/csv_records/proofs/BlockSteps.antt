@@ -73,9 +73,9 @@ begin_left (Some v) n from block is front long within =
     rw (same, mark_is) (ap Some (strip_front n v (long v refl)))
 
 -- a block with the next bytes behind those that are kept
-pub block_left : (o : Option (List ℕ)) (before block : List ℕ) (kept n at : ℕ)
-    → ((v : List ℕ) → o ≡ Some v → slice_range block kept (kept + n) ≡ take n (drop at v)) → before ≡ []
-    → bytes_left o (slice_range block kept (kept + n)) (at + n) ≡ bytes_left o before at
-block_left None before block kept n at front none = refl
-block_left (Some v) before block kept n at front none =
-    rw (front v refl, none, ← drop-drop) (ap Some (take-append-drop n (drop at v)))
+pub block_left : (o : Option (List ℕ)) (before block : List ℕ) (kept n at start : ℕ)
+    → ((v : List ℕ) → o ≡ Some v → slice_range block kept (kept + n) ≡ take n (drop at v)) → before ≡ [] → start ≡ at
+    → bytes_left o (slice_range block kept (kept + n)) (at + n) ≡ bytes_left o before start
+block_left None before block kept n at start front none here = refl
+block_left (Some v) before block kept n at start front none here =
+    rw (front v refl, none, here, ← drop-drop) (ap Some (take-append-drop n (drop at v)))

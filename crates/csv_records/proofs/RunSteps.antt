@@ -46,6 +46,13 @@ plain_runs xs n none = runs_none st.InField (is_byte3 44 13 10) plain_goes n xs 
 pub quoted_runs : (xs : List ℕ) (n : ℕ) → Nowhere (Passes (is_byte 34) xs) 0 n → Runs default_config st.InQuoted (take n xs)
 quoted_runs xs n none = runs_none st.InQuoted (is_byte 34) quoted_goes n xs none
 
+-- the end of a field or of a record isn't a byte that joins
+no_field : (x y : State × Action) → ◌≡◌ {A = State × Action} (st.StartField, act.EndField) (st.InField, act.Copy) → x ≡ y
+no_field x y e = let same : act.EndField ≡ act.Copy = ap (λ (p : State × Action). p.1) e in cc
+
+no_record : (s : State) (x y : State × Action) → ◌≡◌ {A = State × Action} (s, act.EndRecord) (st.InField, act.Copy) → x ≡ y
+no_record s x y e = let same : act.EndRecord ≡ act.Copy = ap (λ (p : State × Action). p.1) e in cc
+
 -- a byte that joins a field without quotes begins one, unless it is a quote
 begins : (p : Place) (b : ℕ) → begins_field p ≡ true → step default_config st.InField b ≡ (st.InField, act.Copy) → (b == 34) ≡ false
     → step default_config (state_of p) b ≡ (st.InField, act.Copy)
@@ -55,18 +62,18 @@ begins p b h e q = by_place p h where
       → ◌≡◌ {A = State × Action} (cond (u || w) (st.StartRecord, act.Skip) (cond v (st.InQuoted, act.Skip) (cond t (st.StartField, act.EndField) (cond (u || w) (cond u st.AfterCr st.StartRecord, act.EndRecord) (st.InField, act.Copy))))) (st.InField, act.Copy)
   by_tests false false false false e q = refl
   by_tests t u w true e q = cc
-  by_tests true u w false e q = cc
-  by_tests false true w false e q = cc
-  by_tests false false true false e q = cc
+  by_tests true u w false e q = no_field _ _ e
+  by_tests false true w false e q = no_record st.AfterCr _ _ e
+  by_tests false false true false e q = no_record st.StartRecord _ _ e
 
   after : (t u w v : Bool) → ◌≡◌ {A = State × Action} (cond t (st.StartField, act.EndField) (cond (u || w) (cond u st.AfterCr st.StartRecord, act.EndRecord) (st.InField, act.Copy))) (st.InField, act.Copy)
       → v ≡ false
       → ◌≡◌ {A = State × Action} (cond w (st.StartRecord, act.Skip) (cond (u || w) (st.StartRecord, act.Skip) (cond v (st.InQuoted, act.Skip) (cond t (st.StartField, act.EndField) (cond (u || w) (cond u st.AfterCr st.StartRecord, act.EndRecord) (st.InField, act.Copy)))))) (st.InField, act.Copy)
   after false false false false e q = refl
   after t u w true e q = cc
-  after true u w false e q = cc
-  after false true w false e q = cc
-  after false false true false e q = cc
+  after true u w false e q = no_field _ _ e
+  after false true w false e q = no_record st.AfterCr _ _ e
+  after false false true false e q = no_record st.StartRecord _ _ e
 
   by_place : (p : Place) → begins_field p ≡ true → step default_config (state_of p) b ≡ (st.InField, act.Copy)
   by_place place.StartRecord h = by_tests (b == 44) (b == 13) (b == 10) (b == 34) e q

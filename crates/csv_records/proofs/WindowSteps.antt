@@ -3,7 +3,7 @@ use Rattle.std.proofs.Common.{◌≡◌, refl, ℕ, zero, suc, ◌+◌, ◌-◌,
 use Rattle.std.specs.Prelude.{slice_range}
 use Rattle.std.proofs.Math.Seq.{take-add, drop-append_seam}
 use Rattle.std.proofs.lemmas.List.{take-take, take_all, drop-take, drop-drop, length-drop, length-take-le, take-append-le, drop-append-le}
-use Rattle.csv_records.specs.Windows.{Begins}
+use Rattle.csv_records.specs.Windows.{Bytes, Begins}
 
 pub length-part : (xs : List ℕ) (i j : ℕ) → i ≤ j → j ≤ length xs → length (slice_range xs i j) ≡ j - i
 length-part xs i j h l = length-take-le (j - i) (drop i xs) (omega (arith, length-drop i xs))
@@ -91,4 +91,37 @@ begins_part b base w n h l within =
 pub part_none : (b : List ℕ) (i : ℕ) → slice_range b i i ≡ []
 part_none b i = ap (λ k. take k (drop i b)) {x = i - i} {y = 0} (omega arith)
 
+-- a list that was written as a slice of all of it
+pub whole_written : (n : ℕ) (now old : List ℕ) → length now ≡ length old → n ≡ length old → take n (now ++ drop (length now) old) ≡ now
+whole_written n now old same size = take-append-le n now (drop (length now) old) (omega arith) ∙ take_all n now (omega arith)
+
+-- how many bytes come next
+ahead_length : (old : Bytes) (b : List ℕ) (base w n to at : ℕ) → old ≡ record { kept = slice_range b base w; ahead = slice_range b n to; at = at }
+    → n ≤ to → to ≤ length b → length old.ahead ≡ to - n
+ahead_length old b base w n to at e order within = ap (λ (o : Bytes). length o.ahead) e ∙ length-part b n to order within
+
+pub skips : (old : Bytes) (b : List ℕ) (base w n to at : ℕ) → old ≡ record { kept = slice_range b base w; ahead = slice_range b n to; at = at }
+    → n ≤ to → to ≤ length b → 0 < length old.ahead
+    → ◌≡◌ {A = Bytes} (record { kept = slice_range b base w; ahead = slice_range b (n + 1) to; at = at }) (record { kept = old.kept; ahead = drop 1 old.ahead; at = old.at })
+skips old b base w n to at e order within some =
+    let size : length old.ahead ≡ to - n = ahead_length old b base w n to at e order within in
+    rw (e, drop_part b n to 1 (omega arith)) refl
+
+pub keeps : (old : Bytes) (b c : List ℕ) (base w n to at k : ℕ) → old ≡ record { kept = slice_range b base w; ahead = slice_range b n to; at = at }
+    → base ≤ w → w ≤ n → n ≤ to → to ≤ length b → k ≤ length old.ahead
+    → take (w + k) c ≡ take w b ++ slice_range b n (n + k) → slice_range c base (w + k) ≡ old.kept ++ take k old.ahead
+keeps old b c base w n to at k e kept gap order within few moved =
+    let size : length old.ahead ≡ to - n = ahead_length old b base w n to at e order within in
+    rw e (kept_more b c base w n to k kept gap (omega arith) within moved)
+
+pub goes_on : (old : Bytes) (b c : List ℕ) (base w n to at k : ℕ) → old ≡ record { kept = slice_range b base w; ahead = slice_range b n to; at = at }
+    → w ≤ n → n ≤ to → to ≤ length b → k ≤ length old.ahead → drop (w + k) c ≡ drop (w + k) b
+    → slice_range c (n + k) to ≡ drop k old.ahead
+goes_on old b c base w n to at k e gap order within few rest =
+    let size : length old.ahead ≡ to - n = ahead_length old b base w n to at e order within in
+    rw e (ahead_after b c w n to k gap (omega arith) rest)
+
 pub ruleset window_steps = (length-part, kept_more, ahead_after, begins_part, part_none)
+
+-- a part of a block that is moved within it, or stays
+pub ruleset move_steps = (whole_written, stays)

@@ -111,7 +111,7 @@ fn move_front(block: &mut [u8], from: usize, to: usize)
 }
 
 /// Moves so many bytes of a block down from a place to another.
-fn move_down(block: &mut [u8], from: usize, to: usize, count: usize)
+fn copy_down(block: &mut [u8], from: usize, to: usize, count: usize)
     requires order { to ≤ from }
     requires within { from + count ≤ length block.old }
     ensures length { length block.new ≡ length block.old }
@@ -119,6 +119,21 @@ fn move_down(block: &mut [u8], from: usize, to: usize, count: usize)
     ensures rest { drop (to + count) block.new ≡ drop (to + count) block.old }
 {
     block.copy_within(from..from + count, to);
+}
+
+/// The same, where the places may be one.
+#[tactic(auto, using(crate::proofs::WindowSteps::move_steps))]
+#[inline]
+fn move_down(block: &mut Vec<u8>, from: usize, to: usize, count: usize)
+    requires order { to ≤ from }
+    requires within { from + count ≤ length block.old.items }
+    ensures length { length block.new.items ≡ length block.old.items }
+    ensures front { take (to + count) block.new.items ≡ take to block.old.items ++ slice_range block.old.items from (from + count) }
+    ensures rest { drop (to + count) block.new.items ≡ drop (to + count) block.old.items }
+{
+    if to != from {
+        copy_down(block, from, to, count);
+    }
 }
 
 /// Makes a block longer where more than half of it is kept.
@@ -220,9 +235,7 @@ impl Window {
         ensures ahead { self.new.ahead ≡ drop count self.old.ahead }
         ensures at { self.new.at ≡ self.old.at }
     {
-        if self.write != self.next {
-            move_down(&mut self.block, self.next, self.write, count);
-        }
+        move_down(&mut self.block, self.next, self.write, count);
         self.write += count;
         self.next += count;
     }
