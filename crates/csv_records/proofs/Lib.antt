@@ -3,3 +3,4 @@ pub mod BlockSteps
 pub mod RunSteps
 pub mod WindowSteps
 pub mod SpanSteps
+pub mod CursorSteps

@@ -266,7 +266,7 @@ impl Window {
     #[inline(never)]
     pub fn refill<S: Source>(&mut self, source: &mut S) -> Result<bool, OutsideRefused>
         requires { self.old.ahead ≡ [] }
-        ensures kept { OnOk result (self.new.kept ≡ self.old.kept) }
+        ensures kept { self.new.kept ≡ self.old.kept }
         ensures left { OnOk result (bytes_left (S.told source.old) self.new.ahead self.new.at
             ≡ bytes_left (S.told source.old) self.old.ahead self.old.at) }
         ensures more { result ≡ Ok true → 0 < length self.new.ahead }
