@@ -76,7 +76,7 @@ records_some s xs p e =
     ]))
 
 -- a record that was read is the first of those that were left
-pub takes_record : (s t : State) (o now : Option (List ℕ)) (fields : Fields)
+takes_record : (s t : State) (o now : Option (List ℕ)) (fields : Fields)
     → option_map (next_record default_config s [] []) o ≡ option_map (λ (r : List ℕ). Some (fields, t, r)) now
     → Takes (option_map (records_at s) o) fields (option_map (records_at t) now)
 takes_record s t None now fields e = tt
@@ -86,12 +86,23 @@ takes_record s t (Some xs) (Some ys) fields e =
     rw (records_some s xs (fields, t, ys) p) (refl, refl)
 
 -- where there was none, none is left
-pub has_no_record : (s : State) (o : Option (List ℕ)) (told : Option (List ℕ))
+has_no_record : (s : State) (o : Option (List ℕ)) (told : Option (List ℕ))
     → option_map (next_record default_config s [] []) o ≡ option_map (λ (v : List ℕ). None) told
     → HasNone (option_map (records_at s) o)
 has_no_record s None told e = tt
 has_no_record s (Some xs) None e = cc
 has_no_record s (Some xs) (Some v) e = let p : next_record default_config s [] [] xs ≡ None = (cc) in records_none s xs p
+
+-- the same, for a reader that notes whether a CR ended the record before
+pub takes_between : (b after : Bool) (s t : State) (o now : Option (List ℕ)) (fields : Fields) → s ≡ between b → between after ≡ t
+    → option_map (next_record default_config s [] []) o ≡ option_map (λ (r : List ℕ). Some (fields, t, r)) now
+    → Takes (option_map (records_at (between b)) o) fields (option_map (records_at (between after)) now)
+takes_between b after s t o now fields start stop e = rw (← start, stop) (takes_record s t o now fields e)
+
+pub has_none_between : (b : Bool) (s : State) (o : Option (List ℕ)) (told : Option (List ℕ)) → s ≡ between b
+    → option_map (next_record default_config s [] []) o ≡ option_map (λ (v : List ℕ). None) told
+    → HasNone (option_map (records_at (between b)) o)
+has_none_between b s o told start e = rw (← start) (has_no_record s o told e)
 
 -- a byte that doesn't end the record
 pub byte_goes : (s t : State) (a : Action) (b : ℕ) (fs gs : Fields) (f g : List ℕ) (o now : Option (List ℕ)) (first : Option (Option Read))
@@ -180,6 +191,6 @@ pub between_ends : (b : Bool) → ends_at_end (between b) ≡ false
 between_ends true = refl
 between_ends false = refl
 
-pub ruleset left_steps = (takes_record, has_no_record)
+pub ruleset left_steps = (takes_between, has_none_between)
 
 pub ruleset reader_steps = (byte_goes, byte_ends, text_ends, text_is_over, between_ends, run_goes, run_fewer)

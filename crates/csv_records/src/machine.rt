@@ -190,3 +190,14 @@ pub fn is_after_cr(place: Place) -> bool
         _ => false,
     }
 }
+
+/// The place between two records, the first of which a CR ended or didn't.
+pub fn start_after(after_cr: bool) -> Place
+    ensures { state_of result ≡ between after_cr }
+{
+    if after_cr {
+        Place::AfterCr
+    } else {
+        Place::StartRecord
+    }
+}

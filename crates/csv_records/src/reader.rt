@@ -9,7 +9,7 @@ ghost use Rattle.csv_records.specs.Places.{state_of};
 ghost use Rattle.csv_records.specs.Left.{bytes_left, count_left, most_left, between, records_left, Takes, HasNone};
 
 use crate::cursor::Cursor;
-use crate::machine::{Effect, Place, ends_record, is_after_cr, step};
+use crate::machine::{Effect, Place, ends_record, is_after_cr, start_after, step};
 use dfx_outside::{OutsideRefused, Source};
 use std::alloc::Global;
 use std::marker::Model;
@@ -113,11 +113,7 @@ impl RecordReader {
         ensures later { S.faults source.old ≤ S.faults source.new }
         ensures failed { result ≡ Err refused.Failed → Rose (S.faults source.old) (S.faults source.new) }
     {
-        let start = if self.after_cr {
-            Place::AfterCr
-        } else {
-            Place::StartRecord
-        };
+        let start = start_after(self.after_cr);
         match take_next(source, &mut self.cursor, start) {
             Err(refused) => Err(refused),
             Ok(None) => Ok(false),

@@ -8,7 +8,7 @@ use Rattle.csv_records.proofs.reader.take_next.Given as goal
 -- the record that was begun is the one at hand
 abbrev pub invariant-bytes : goal.invariant-bytes
 invariant-bytes g l = record {
-  tracks : option_map (next_record default_config (state_of l.start) [] []) (bytes_left (g.S.Source.told l.fn.source) l.fn.cursor.bytes l.fn.cursor.at)
+  tracks : option_map (next_record default_config (state_of l.fn.start) [] []) (bytes_left (g.S.Source.told l.fn.source) l.fn.cursor.bytes l.fn.cursor.at)
       ≡ option_map (next_record default_config (state_of l.place) l.cursor.fields l.cursor.field) (bytes_left (g.S.Source.told l.fn.source) l.cursor.bytes l.cursor.at);
   told : g.S.Source.told l.source ≡ g.S.Source.told l.fn.source;
   size : g.S.Source.size l.source ≡ g.S.Source.size l.fn.source;
