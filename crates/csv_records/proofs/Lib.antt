@@ -4,3 +4,4 @@ pub mod RunSteps
 pub mod WindowSteps
 pub mod SpanSteps
 pub mod CursorSteps
+pub mod ReadSteps

@@ -7,7 +7,7 @@ use Rattle.csv.specs.declared.parser.State.{State}
 use Rattle.csv.specs.declared.parser.State.TheVariants as st
 use Rattle.csv.specs.declared.parser.Action.{Action}
 use Rattle.csv_records.specs.Cursors.{AtHand, Joins, TakesRun}
-use Rattle.csv_records.specs.Left.{Fields, between, bytes_left, count_left, records_at, Takes, HasNone}
+use Rattle.csv_records.specs.Left.{Ahead, Fields, between, bytes_left, count_left, records_at, records_left, Takes, HasNone}
 
 -- a record takes at least a byte, but for one at the very end, after which there is none
 abbrev Shorter : Read → List ℕ → Type 0
@@ -94,10 +94,12 @@ has_no_record s (Some xs) None e = cc
 has_no_record s (Some xs) (Some v) e = let p : next_record default_config s [] [] xs ≡ None = (cc) in records_none s xs p
 
 -- the same, for a reader that notes whether a CR ended the record before
-pub takes_between : (b after : Bool) (s t : State) (o now : Option (List ℕ)) (fields : Fields) → s ≡ between b → between after ≡ t
-    → option_map (next_record default_config s [] []) o ≡ option_map (λ (r : List ℕ). Some (fields, t, r)) now
-    → Takes (option_map (records_at (between b)) o) fields (option_map (records_at (between after)) now)
-takes_between b after s t o now fields start stop e = rw (← start, stop) (takes_record s t o now fields e)
+pub takes_between : (old : Ahead) (b after : Bool) (s t : State) (bytes : List ℕ) (at : ℕ) (was fields : Fields) (told now : Option (List ℕ))
+    → old ≡ record { bytes = bytes; at = at; after_cr = b; fields = was } → s ≡ between b → between after ≡ t
+    → option_map (next_record default_config s [] []) (bytes_left told bytes at) ≡ option_map (λ (r : List ℕ). Some (fields, t, r)) now
+    → Takes (records_left told old) fields (option_map (records_at (between after)) now)
+takes_between old b after s t bytes at was fields told now is start stop e =
+    rw (is, ← start, stop) (takes_record s t (bytes_left told bytes at) now fields e)
 
 pub has_none_between : (b : Bool) (s : State) (o : Option (List ℕ)) (told : Option (List ℕ)) → s ≡ between b
     → option_map (next_record default_config s [] []) o ≡ option_map (λ (v : List ℕ). None) told
@@ -191,6 +193,6 @@ pub between_ends : (b : Bool) → ends_at_end (between b) ≡ false
 between_ends true = refl
 between_ends false = refl
 
-pub ruleset left_steps = (takes_between, has_none_between)
+pub ruleset left_steps = (has_none_between)
 
 pub ruleset reader_steps = (byte_goes, byte_ends, text_ends, text_is_over, between_ends, run_goes, run_fewer)
