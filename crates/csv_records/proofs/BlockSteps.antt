@@ -1,10 +1,9 @@
 -- The bytes of a block, and those behind it.
 use Rattle.std.specs.Prelude.{slice_range}
-use Rattle.std.proofs.Common.{◌≡◌, refl, ℕ, zero, suc, ◌+◌, ◌-◌, ◌≤◌, ◌<◌, min, Bool, true, false, ◌&&◌, ◌==◌, cond, List, [], ◌∷◌, ◌++◌, length, take, drop, Option, Some, None, option_map, Result, Ok, Err, IfOk, ap, sym, ◌∙◌, arith, eq-eqb, ne_eqb}
+use Rattle.std.proofs.Common.{◌≡◌, refl, ℕ, zero, suc, ◌+◌, ◌≤◌, min, Bool, true, false, ◌&&◌, ◌==◌, cond, List, [], ◌∷◌, ◌++◌, length, take, drop, Option, Some, None, option_map, ap, sym, ◌∙◌, arith, eq-eqb, ne_eqb}
 use Rattle.std.proofs.lemmas.Bool.{eqb-true, eqb-false}
-use Rattle.std.proofs.lemmas.List.{take_all, drop_all, append-nil, drop-drop, take-append-drop, take-append-le}
+use Rattle.std.proofs.lemmas.List.{drop_all, drop-drop, take-append-drop}
 use Rattle.csv.specs.Reading.{strip_bom, is_bom}
-use Rattle.dfx_outside.specs.Bytes.{IsFilled, Fills}
 use Rattle.csv_records.specs.Left.{bytes_left}
 use Rattle.csv_records.specs.Marks.{mark}
 use Rattle.csv_records.proofs.WindowSteps.{end_of_front}

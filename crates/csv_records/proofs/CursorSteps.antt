@@ -1,5 +1,5 @@
 -- What is at hand after a step over the bytes that are kept.
-use Rattle.std.proofs.Common.{All, ◌≡◌, refl, ℕ, ◌+◌, ◌-◌, ◌≤◌, ◌<◌, List, [], ◌∷◌, ◌++◌, length, take, drop, ap, sym, ◌∙◌, arith}
+use Rattle.std.proofs.Common.{All, ◌≡◌, refl, ℕ, ◌≤◌, List, [], ◌++◌, length, take, drop, ap, sym, ◌∙◌, arith}
 use Rattle.std.proofs.lemmas.List.{drop_all, drop-append-le, take-append-drop}
 use Rattle.csv.specs.declared.parser.State.{State}
 use Rattle.csv_records.specs.Cursors.{AtHand, Joins, TakesRun, fields_in, Lies}
@@ -13,7 +13,7 @@ pub passes : (old : AtHand) (kept more ahead rest : List ℕ) (spans : List Span
     → All (Lies start) spans → start ≤ length kept → length kept ≤ start
     → Begins kept more → n ≡ length more → rest ≡ drop 1 ahead → now ≡ at
     → ◌≡◌ {A = AtHand} (record { fields = fields_in more spans; field = drop n more; bytes = rest; at = now })
-        (record { fields = old.fields; field = old.field; bytes = drop 1 old.bytes; at = old.at })
+    (record { fields = old.fields; field = old.field; bytes = drop 1 old.bytes; at = old.at })
 passes old kept more ahead rest spans start n at now e lies within none begins size bytes place =
     let fields : fields_in more spans ≡ fields_in kept spans = fields_kept kept more spans start begins lies within in
     let empty : drop start kept ≡ [] = drop_all start kept none in

@@ -1,5 +1,5 @@
 -- The records of a text, one by one.
-use Rattle.std.proofs.Common.{◌≡◌, refl, ℕ, zero, suc, ◌+◌, ◌-◌, ◌≤◌, ◌<◌, ◌⊎◌, inl, inr, Bool, true, false, cond, List, [], ◌∷◌, ◌++◌, length, Option, Some, None, option_map, ap, sym, ◌∙◌, arith, add-one, drop, append_assoc, append-nil, length-append}
+use Rattle.std.proofs.Common.{◌≡◌, refl, ℕ, zero, suc, ◌+◌, ◌≤◌, ◌<◌, ◌⊎◌, inl, inr, Bool, true, false, cond, List, [], ◌∷◌, ◌++◌, length, Option, Some, None, option_map, ap, sym, ◌∙◌, arith, add-one, drop, append_assoc, append-nil, length-append}
 use Rattle.csv.proofs.ReadFacts.{run-copies}
 use Rattle.csv.specs.Machine.{Read, next_record, ends_at_end, is_end, step, fields_after, field_after}
 use Rattle.csv.specs.Reading.{default_config, records_from, records_next}
@@ -70,7 +70,7 @@ records_none s xs e = rw (add-one, e) refl
 records_some : (s : State) (xs : List ℕ) (p : Read) → next_record default_config s [] [] xs ≡ Some p → records_at s xs ≡ p.0 ∷ records_at p.1 p.2
 unfolding records_from
 records_some s xs p e =
-    rw (add-one, e) (ap (λ (rs : List Fields). p.0 ∷ rs) (elim (shorter s [] [] xs p e) [
+    rw (add-one (length xs), e) (ap (λ (rs : List Fields). p.0 ∷ rs) (elim (shorter s [] [] xs p e) [
       | inl less ↦ enough (length xs) (length p.2 + 1) p.1 p.2 less (omega arith)
       | inr end ↦ rw (end.0, end.1) (none_at_end (length xs) ∙ sym (none_at_end 1))
     ]))

@@ -1,5 +1,5 @@
 -- Fields that stand in kept bytes, when more is kept.
-use Rattle.std.proofs.Common.{All, ◌≡◌, refl, ℕ, zero, suc, ◌+◌, ◌-◌, ◌≤◌, ◌<◌, List, [], ◌∷◌, ◌++◌, length, take, drop, map, get_or, ap, sym, ◌∙◌, arith, length-append}
+use Rattle.std.proofs.Common.{All, ◌≡◌, refl, ℕ, zero, suc, ◌-◌, ◌≤◌, ◌<◌, List, [], ◌∷◌, ◌++◌, length, drop, get_or, ap, sym, ◌∙◌, arith}
 use Rattle.std.specs.Prelude.{slice_range}
 use Rattle.std.proofs.lemmas.List.{take_all, length-drop, take-append-le}
 use Rattle.csv_records.specs.Cursors.{fields_in, Lies}

@@ -1,5 +1,5 @@
 -- Words: a window of a source's bytes.
-use Rattle.std.specs.Prelude.{◌≡◌, ◌≤◌, ◌<◌, ℕ, List, length, take, drop}
+use Rattle.std.specs.Prelude.{◌≡◌, ◌≤◌, ◌<◌, ℕ, List, length, take}
 
 -- what a clause sees of a window: the bytes that are kept, those that were read and not taken, and the place in the
 -- source behind them

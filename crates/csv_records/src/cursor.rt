@@ -45,11 +45,14 @@ impl Cursor {
     pub fn begin<S: Source>(alloc: Global, source: &mut S) -> Result<Cursor, OutsideRefused>
         ensures left { IfOk result (λ c. bytes_left (S.told source.old) c.bytes c.at
             ≡ option_map strip_bom (S.told source.old)) }
-        ensures most { IfOk result (λ c. count_left (S.size source.old) c.bytes c.at ≤ S.size source.old) }
+        ensures most { IfOk result (λ c. count_left (S.size source.old) c.bytes c.at
+            ≤ S.size source.old) }
         ensures small { IfOk result (λ c. S.size source.old < 2 ^ 64) }
-        ensures same { (S.told source.new ≡ S.told source.old) × (S.size source.new ≡ S.size source.old) }
+        ensures same { (S.told source.new ≡ S.told source.old)
+            × (S.size source.new ≡ S.size source.old) }
         ensures later { S.faults source.old ≤ S.faults source.new }
-        ensures failed { result ≡ Err refused.Failed → Rose (S.faults source.old) (S.faults source.new) }
+        ensures failed { result ≡ Err refused.Failed
+            → Rose (S.faults source.old) (S.faults source.new) }
     {
         match Window::begin(alloc, source) {
             Err(refused) => Err(refused),
@@ -100,9 +103,11 @@ impl Cursor {
         ensures field { OnOk result (self.new.field ≡ self.old.field) }
         ensures most { OnOk result (count_left (S.size source.old) self.new.bytes self.new.at
             ≤ count_left (S.size source.old) self.old.bytes self.old.at) }
-        ensures same { (S.told source.new ≡ S.told source.old) × (S.size source.new ≡ S.size source.old) }
+        ensures same { (S.told source.new ≡ S.told source.old)
+            × (S.size source.new ≡ S.size source.old) }
         ensures later { S.faults source.old ≤ S.faults source.new }
-        ensures failed { result ≡ Err refused.Failed → Rose (S.faults source.old) (S.faults source.new) }
+        ensures failed { result ≡ Err refused.Failed
+            → Rose (S.faults source.old) (S.faults source.new) }
     {
         if let Some(byte) = self.window.first() {
             return Ok(Some(byte));

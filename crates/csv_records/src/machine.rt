@@ -70,7 +70,8 @@ fn start_record(byte: u8) -> (Place, Effect)
 
 /// The place after a byte, and what it does.
 pub fn step(place: Place, byte: u8) -> (Place, Effect)
-    ensures is { (state_of result.0, action_of result.1) ≡ Spec.step default_config (state_of place) byte }
+    ensures is { (state_of result.0, action_of result.1)
+        ≡ Spec.step default_config (state_of place) byte }
     ensures ends { result.1 ≡ effect.EndRecord → Spec.ends_at_end (state_of result.0) ≡ false }
 {
     match place {

@@ -1,4 +1,5 @@
-//! A reader of records that takes its bytes from a source as it needs them. The source isn't in it: each call is given it.
+//! A reader of records that takes its bytes from a source as it needs them. The source isn't in it: each call is given
+//! it.
 
 ghost use Rattle.std.specs.Prelude.{◌≡◌, ◌≤◌, ◌<◌, ◌^◌, [], true, false, length, option_map, slice_index_or, Ok, Err, Some, None, IfOk, IfSome};
 ghost use Rattle.csv.specs.Machine.{next_record, ends_at_end};
@@ -43,17 +44,23 @@ fn take_next<S: Source>(
 ) -> Result<Option<Place>, OutsideRefused>
     requires { ends_at_end (state_of start) ≡ false }
     ensures some { (p : Place) → result ≡ Ok (Some p)
-        → option_map (next_record default_config (state_of start) [] []) (bytes_left (S.told source.old) cursor.old.bytes cursor.old.at)
-        ≡ option_map (λ r. Some (cursor.new.fields, state_of p, r)) (bytes_left (S.told source.old) cursor.new.bytes cursor.new.at) }
+        → option_map (next_record default_config (state_of start) [] [])
+        (bytes_left (S.told source.old) cursor.old.bytes cursor.old.at)
+        ≡ option_map (λ r. Some (cursor.new.fields, state_of p, r))
+        (bytes_left (S.told source.old) cursor.new.bytes cursor.new.at) }
     ensures between { IfOk result (λ o. IfSome o (λ p. ends_at_end (state_of p) ≡ false)) }
     ensures none { result ≡ Ok None
-        → option_map (next_record default_config (state_of start) [] []) (bytes_left (S.told source.old) cursor.old.bytes cursor.old.at)
+        → option_map (next_record default_config (state_of start) [] [])
+        (bytes_left (S.told source.old) cursor.old.bytes cursor.old.at)
         ≡ option_map (λ v. None) (S.told source.old) }
     ensures most { (p : Place) → result ≡ Ok (Some p)
-        → count_left (S.size source.old) cursor.new.bytes cursor.new.at < count_left (S.size source.old) cursor.old.bytes cursor.old.at }
-    ensures same { (S.told source.new ≡ S.told source.old) × (S.size source.new ≡ S.size source.old) }
+        → count_left (S.size source.old) cursor.new.bytes cursor.new.at
+        < count_left (S.size source.old) cursor.old.bytes cursor.old.at }
+    ensures same { (S.told source.new ≡ S.told source.old)
+        × (S.size source.new ≡ S.size source.old) }
     ensures later { S.faults source.old ≤ S.faults source.new }
-    ensures failed { result ≡ Err refused.Failed → Rose (S.faults source.old) (S.faults source.new) }
+    ensures failed { result ≡ Err refused.Failed
+        → Rose (S.faults source.old) (S.faults source.new) }
 {
     cursor.clear();
     let mut place = start;
@@ -86,13 +93,16 @@ fn take_next<S: Source>(
 impl RecordReader {
     /// A reader at the start of a source, behind a byte order mark.
     pub fn begin<S: Source>(alloc: Global, source: &mut S) -> Result<RecordReader, OutsideRefused>
-        ensures left { IfOk result (λ r. bytes_left (S.told source.old) r.bytes r.at ≡ option_map strip_bom (S.told source.old)) }
+        ensures left { IfOk result (λ r. bytes_left (S.told source.old) r.bytes r.at
+            ≡ option_map strip_bom (S.told source.old)) }
         ensures start { IfOk result (λ r. r.after_cr ≡ false) }
         ensures most { IfOk result (λ r. most_left (S.size source.old) r ≤ S.size source.old) }
         ensures small { IfOk result (λ r. S.size source.old < 2 ^ 64) }
-        ensures same { (S.told source.new ≡ S.told source.old) × (S.size source.new ≡ S.size source.old) }
+        ensures same { (S.told source.new ≡ S.told source.old)
+            × (S.size source.new ≡ S.size source.old) }
         ensures later { S.faults source.old ≤ S.faults source.new }
-        ensures failed { result ≡ Err refused.Failed → Rose (S.faults source.old) (S.faults source.new) }
+        ensures failed { result ≡ Err refused.Failed
+            → Rose (S.faults source.old) (S.faults source.new) }
     {
         match Cursor::begin(alloc, source) {
             Err(refused) => Err(refused),
@@ -106,12 +116,17 @@ impl RecordReader {
     /// Takes the next record of the source, if there is one.
     #[tactic(auto, using(crate::proofs::RecordSteps::left_steps))]
     pub fn take_record<S: Source>(&mut self, source: &mut S) -> Result<bool, OutsideRefused>
-        ensures some { result ≡ Ok true → Takes (records_left (S.told source.old) self.old) self.new.fields (records_left (S.told source.old) self.new) }
+        ensures some { result ≡ Ok true
+            → Takes (records_left (S.told source.old) self.old)
+            self.new.fields (records_left (S.told source.old) self.new) }
         ensures none { result ≡ Ok false → HasNone (records_left (S.told source.old) self.old) }
-        ensures most { result ≡ Ok true → most_left (S.size source.old) self.new < most_left (S.size source.old) self.old }
-        ensures same { (S.told source.new ≡ S.told source.old) × (S.size source.new ≡ S.size source.old) }
+        ensures most { result ≡ Ok true
+            → most_left (S.size source.old) self.new < most_left (S.size source.old) self.old }
+        ensures same { (S.told source.new ≡ S.told source.old)
+            × (S.size source.new ≡ S.size source.old) }
         ensures later { S.faults source.old ≤ S.faults source.new }
-        ensures failed { result ≡ Err refused.Failed → Rose (S.faults source.old) (S.faults source.new) }
+        ensures failed { result ≡ Err refused.Failed
+            → Rose (S.faults source.old) (S.faults source.new) }
     {
         let start = start_after(self.after_cr);
         match take_next(source, &mut self.cursor, start) {

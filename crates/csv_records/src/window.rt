@@ -70,14 +70,15 @@ fn read_behind<S: Source>(
         → IfOk result (λ n. slice_range block.new kept (kept + n) ≡ take n (drop at v)) }
     ensures some { (v : List ℕ) → S.told source.old ≡ Some v → 0 < room → at < length v
         → IfOk result (λ n. 0 < n) }
-    ensures same { (S.told source.new ≡ S.told source.old) × (S.size source.new ≡ S.size source.old) }
+    ensures same { (S.told source.new ≡ S.told source.old)
+        × (S.size source.new ≡ S.size source.old) }
     ensures cause { HasCause (S.faults source.old) (S.faults source.new) result }
 {
     source.read_at(at, &mut block[kept..kept + room])
 }
 
-/// Reads a beginning of the source into that of a block, `room` bytes or up to the first read that gives none, and answers
-/// how many.
+/// Reads a beginning of the source into that of a block, `room` bytes or up to the first read that gives none, and
+/// answers how many.
 fn first_block<S: Source>(source: &mut S, block: &mut [u8], room: usize) -> Result<usize, Failed>
     requires { room ≤ length block.old }
     ensures within { IfOk result (λ n. n ≤ room) }
@@ -86,7 +87,8 @@ fn first_block<S: Source>(source: &mut S, block: &mut [u8], room: usize) -> Resu
         → IfOk result (λ n. take n block.new ≡ take n v) }
     ensures whole { (v : List ℕ) → S.told source.old ≡ Some v
         → IfOk result (λ n. min room (length v) ≤ n) }
-    ensures same { (S.told source.new ≡ S.told source.old) × (S.size source.new ≡ S.size source.old) }
+    ensures same { (S.told source.new ≡ S.told source.old)
+        × (S.size source.new ≡ S.size source.old) }
     ensures cause { HasCause (S.faults source.old) (S.faults source.new) result }
 {
     let mut at = 0;
@@ -115,7 +117,8 @@ fn copy_down(block: &mut [u8], from: usize, to: usize, count: usize)
     requires order { to ≤ from }
     requires within { from + count ≤ length block.old }
     ensures length { length block.new ≡ length block.old }
-    ensures front { take (to + count) block.new ≡ take to block.old ++ slice_range block.old from (from + count) }
+    ensures front { take (to + count) block.new
+        ≡ take to block.old ++ slice_range block.old from (from + count) }
     ensures rest { drop (to + count) block.new ≡ drop (to + count) block.old }
 {
     block.copy_within(from..from + count, to);
@@ -128,7 +131,8 @@ fn move_down(block: &mut Vec<u8>, from: usize, to: usize, count: usize)
     requires order { to ≤ from }
     requires within { from + count ≤ length block.old.items }
     ensures length { length block.new.items ≡ length block.old.items }
-    ensures front { take (to + count) block.new.items ≡ take to block.old.items ++ slice_range block.old.items from (from + count) }
+    ensures front { take (to + count) block.new.items
+        ≡ take to block.old.items ++ slice_range block.old.items from (from + count) }
     ensures rest { drop (to + count) block.new.items ≡ drop (to + count) block.old.items }
 {
     if to != from {
@@ -157,11 +161,14 @@ impl Window {
         ensures kept { IfOk result (λ w. w.kept ≡ []) }
         ensures left { IfOk result (λ w. bytes_left (S.told source.old) w.ahead w.at
             ≡ option_map strip_bom (S.told source.old)) }
-        ensures most { IfOk result (λ w. count_left (S.size source.old) w.ahead w.at ≤ S.size source.old) }
+        ensures most { IfOk result (λ w. count_left (S.size source.old) w.ahead w.at
+            ≤ S.size source.old) }
         ensures small { IfOk result (λ w. S.size source.old < 2 ^ 64) }
-        ensures same { (S.told source.new ≡ S.told source.old) × (S.size source.new ≡ S.size source.old) }
+        ensures same { (S.told source.new ≡ S.told source.old)
+            × (S.size source.new ≡ S.size source.old) }
         ensures later { S.faults source.old ≤ S.faults source.new }
-        ensures failed { result ≡ Err refused.Failed → Rose (S.faults source.old) (S.faults source.new) }
+        ensures failed { result ≡ Err refused.Failed
+            → Rose (S.faults source.old) (S.faults source.new) }
     {
         let room = source.size().min(BLOCK) as usize;
         let Ok(mut block) = vec![in alloc; 0u8; room.max(1)] else {
@@ -274,9 +281,11 @@ impl Window {
             ≡ option_map (λ v. []) (S.told source.old) }
         ensures most { OnOk result (count_left (S.size source.old) self.new.ahead self.new.at
             ≤ count_left (S.size source.old) self.old.ahead self.old.at) }
-        ensures same { (S.told source.new ≡ S.told source.old) × (S.size source.new ≡ S.size source.old) }
+        ensures same { (S.told source.new ≡ S.told source.old)
+            × (S.size source.new ≡ S.size source.old) }
         ensures later { S.faults source.old ≤ S.faults source.new }
-        ensures failed { result ≡ Err refused.Failed → Rose (S.faults source.old) (S.faults source.new) }
+        ensures failed { result ≡ Err refused.Failed
+            → Rose (S.faults source.old) (S.faults source.new) }
     {
         let size = source.size();
         if self.at >= size {
