@@ -23,7 +23,8 @@ at_end x q e s r = (sym (ap (λ (p : Read). p.1) e) ∙ s, sym (ap (λ (p : Read
 never : (q : Read) → ◌≡◌ {A = Option Read} None (Some q) → ⊥
 never q e = cc
 
-shorter : (s : State) (fields : List (List ℕ)) (field xs : List ℕ) (q : Read) → next_record default_config s fields field xs ≡ Some q → Shorter q xs
+shorter : (s : State) (fields : List (List ℕ)) (field xs : List ℕ) (q : Read)
+    → next_record default_config s fields field xs ≡ Some q → Shorter q xs
 unfolding next_record
 shorter s fields field [] q e =
     elim (chosen (ends_at_end s) (fields ++ (field ∷ []), st.StartRecord, []) None q e) [
@@ -49,7 +50,8 @@ same_next None f g h = refl
 same_next (Some p) f g h = ap (λ (rs : List Fields). p.0 ∷ rs) (h p refl)
 
 -- more turns than bytes give the same records
-enough : (n m : ℕ) (s : State) (xs : List ℕ) → length xs < n → length xs < m → records_from default_config n s xs ≡ records_from default_config m s xs
+enough : (n m : ℕ) (s : State) (xs : List ℕ) → length xs < n → length xs < m
+    → records_from default_config n s xs ≡ records_from default_config m s xs
 unfolding records_from
 enough zero m s xs h k = absurd (omega arith)
 enough (suc n) zero s xs h k = absurd (omega arith)

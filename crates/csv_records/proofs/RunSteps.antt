@@ -24,10 +24,14 @@ runs_none s test goes (suc n) (x ∷ xs) none = (
   runs_none s test goes n xs (λ k low high. none (suc k) (omega arith) (omega arith)),
 )
 
+-- a byte of a field without quotes, by whether it is a comma, a CR and a line feed
+abbrev in_field : Bool → Bool → Bool → State × Action
+in_field t u w = cond t (st.StartField, act.EndField) (cond (u || w) (cond u st.AfterCr st.StartRecord, act.EndRecord) (st.InField, act.Copy))
+
 plain_goes : (b : ℕ) → is_byte3 44 13 10 b ≡ false → step default_config st.InField b ≡ (st.InField, act.Copy)
 plain_goes b e = by_tests (b == 44) (b == 13) (b == 10) e where
   by_tests : (t u w : Bool) → (t || u || w) ≡ false
-      → ◌≡◌ {A = State × Action} (cond t (st.StartField, act.EndField) (cond (u || w) (cond u st.AfterCr st.StartRecord, act.EndRecord) (st.InField, act.Copy))) (st.InField, act.Copy)
+      → in_field t u w ≡ (st.InField, act.Copy)
   by_tests false false false e = refl
   by_tests true u w e = cc
   by_tests false true w e = cc
@@ -56,18 +60,18 @@ no_record s x y e = let same : act.EndRecord ≡ act.Copy = ap (λ (p : State ×
 begins : (p : Place) (b : ℕ) → begins_field p ≡ true → step default_config st.InField b ≡ (st.InField, act.Copy) → (b == 34) ≡ false
     → step default_config (state_of p) b ≡ (st.InField, act.Copy)
 begins p b h e q = by_place p h where
-  by_tests : (t u w v : Bool) → ◌≡◌ {A = State × Action} (cond t (st.StartField, act.EndField) (cond (u || w) (cond u st.AfterCr st.StartRecord, act.EndRecord) (st.InField, act.Copy))) (st.InField, act.Copy)
+  by_tests : (t u w v : Bool) → in_field t u w ≡ (st.InField, act.Copy)
       → v ≡ false
-      → ◌≡◌ {A = State × Action} (cond (u || w) (st.StartRecord, act.Skip) (cond v (st.InQuoted, act.Skip) (cond t (st.StartField, act.EndField) (cond (u || w) (cond u st.AfterCr st.StartRecord, act.EndRecord) (st.InField, act.Copy))))) (st.InField, act.Copy)
+      → cond (u || w) (st.StartRecord, act.Skip) (cond v (st.InQuoted, act.Skip) (in_field t u w)) ≡ (st.InField, act.Copy)
   by_tests false false false false e q = refl
   by_tests t u w true e q = cc
   by_tests true u w false e q = no_field _ _ e
   by_tests false true w false e q = no_record st.AfterCr _ _ e
   by_tests false false true false e q = no_record st.StartRecord _ _ e
 
-  after : (t u w v : Bool) → ◌≡◌ {A = State × Action} (cond t (st.StartField, act.EndField) (cond (u || w) (cond u st.AfterCr st.StartRecord, act.EndRecord) (st.InField, act.Copy))) (st.InField, act.Copy)
+  after : (t u w v : Bool) → in_field t u w ≡ (st.InField, act.Copy)
       → v ≡ false
-      → ◌≡◌ {A = State × Action} (cond w (st.StartRecord, act.Skip) (cond (u || w) (st.StartRecord, act.Skip) (cond v (st.InQuoted, act.Skip) (cond t (st.StartField, act.EndField) (cond (u || w) (cond u st.AfterCr st.StartRecord, act.EndRecord) (st.InField, act.Copy)))))) (st.InField, act.Copy)
+      → cond w (st.StartRecord, act.Skip) (cond (u || w) (st.StartRecord, act.Skip) (cond v (st.InQuoted, act.Skip) (in_field t u w))) ≡ (st.InField, act.Copy)
   after false false false false e q = refl
   after t u w true e q = cc
   after true u w false e q = no_field _ _ e

@@ -11,7 +11,8 @@ same_field : (xs ys : List ℕ) (s : Span) → Begins xs ys → Lies (length xs)
 same_field xs ys s b h = sym (part_of_front ys s.from s.to (length xs) h.order h.within) ∙ ap (λ (zs : List ℕ). slice_range zs s.from s.to) b.is
 
 -- what is kept longer has the same fields
-pub fields_kept : (xs ys : List ℕ) (spans : List Span) (m : ℕ) → Begins xs ys → All (Lies m) spans → m ≤ length xs → fields_in ys spans ≡ fields_in xs spans
+pub fields_kept : (xs ys : List ℕ) (spans : List Span) (m : ℕ) → Begins xs ys → All (Lies m) spans → m ≤ length xs
+    → fields_in ys spans ≡ fields_in xs spans
 fields_kept xs ys [] m b h l = refl
 fields_kept xs ys (s ∷ spans) m b h l =
     let lies : Lies m s = h 0 s (omega arith) in

@@ -82,7 +82,7 @@ fn read_behind<S: Source>(
 fn first_block<S: Source>(source: &mut S, block: &mut [u8], room: usize) -> Result<usize, Failed>
     requires { room ≤ length block.old }
     ensures within { IfOk result (λ n. n ≤ room) }
-    ensures kept { length block.new ≡ length block.old }
+    ensures length { length block.new ≡ length block.old }
     ensures front { (v : List ℕ) → S.told source.old ≡ Some v
         → IfOk result (λ n. take n block.new ≡ take n v) }
     ensures whole { (v : List ℕ) → S.told source.old ≡ Some v
