@@ -27,7 +27,8 @@ ghost use Rattle.binder_kind_laws.specs.Scripts.{has_items, are_whole, kinds_of,
 /// The query that a script means over tables, each with a kind for each name, is well-kinded over
 /// them (`queries`) and has a name for each of its columns (`names`). The premise on the script is
 /// that each select has an item. A script that a text spells has them, and kinds for the columns
-/// that it declares: so its query is well-kinded over its tables (`spelled`).
+/// that it declares: so its query is well-kinded over its tables (`spelled`), with a name for each
+/// of its columns (`named`).
 pub fn kinded_law()
     ensures expressions { (columns : Columns) (e : AExprAst) (t : ATyped)
         → are_kinds (kinds columns) ≡ true → meaning columns e None ≡ Ok t
@@ -42,4 +43,7 @@ pub fn kinded_law()
     ensures spelled { (text : List ℕ) (tokens : List AToken) (script : AScript) (q : AQuery)
         → parsed text tokens ≡ Ok script → bound script (map declared_schema script.tables) ≡ Ok q
         → is_well_kinded (map declared_kinds script.tables) q.body ≡ true }
+    ensures named { (text : List ℕ) (tokens : List AToken) (script : AScript) (q : AQuery)
+        → parsed text tokens ≡ Ok script → bound script (map declared_schema script.tables) ≡ Ok q
+        → length q.names ≡ length (body.kinds q.body) }
 {}

@@ -22,7 +22,7 @@ ghost use Rattle.dfx_top.specs.declared.words.Request.TheVariants as wanted;
 use crate::explain::explain;
 use crate::files::read_file;
 use crate::query::run_query;
-use crate::words::{Partitions, Request, request_of};
+use crate::words::{DEFAULT_PARTITIONS, Request, request_of};
 use dfx_outside::{Files, Sink, write_all};
 use dfx_prepare::{Failure, Prepared, failure_line, prepare, status_of};
 use dfx_value::Text;
@@ -41,12 +41,11 @@ pub struct Finished<F, K, E> {
 
 /// The number of partitions of a request.
 fn partitions_for(request: Request) -> u32
-    ensures same { result ≡ spec.partitions_for request }
-    ensures some { 0 < result }
+    ensures { result ≡ spec.partitions_for request }
 {
     match request {
-        Request::Query => Partitions::usual().count(),
-        Request::Explain { partitions } => partitions.count(),
+        Request::Query => DEFAULT_PARTITIONS,
+        Request::Explain { partitions } => partitions,
     }
 }
 
@@ -83,6 +82,8 @@ fn answer_text<F: Files, K: Sink>(
     files: &mut F,
     sink: &mut K,
 ) -> Result<(), Failure>
+    requires { 0 < spec.partitions_for request }
+
     ensures told { (all : Contents) (before : List ℕ)
         → F.told files.old ≡ Some all → K.told sink.old ≡ Some before
         → Told all before (spec.by_script all request text.now) (K.told sink.new)

@@ -1,64 +1,18 @@
 //! The words of a command.
 
-ghost use Rattle.std.specs.Prelude.{◌≡◌, ◌<◌, Some, option_map};
+ghost use Rattle.std.specs.Prelude.{◌≡◌, ◌<◌, IfSome, option_map};
+ghost use Rattle.dfx_top.specs.Asked.{partitions_for};
 ghost use Rattle.dfx_top.specs.Words as spec;
 
 use dfx_value::Text;
-use std::marker::Model;
-
-/// A number of partitions, from 1 to 64.
-#[derive(Clone, Copy, Debug, PartialEq, Eq)]
-pub struct Partitions {
-    count: u32,
-}
-
-impl Model for Partitions {
-    ghost use Rattle.std.specs.Prelude.{ℕ, ◌≤◌};
-
-    ghost Value = { ℕ };
-
-    ghost view = { λ p. p.count };
-
-    ghost invariant = { λ p. (1 ≤ p.count) × (p.count ≤ 64) };
-
-    ghost inverse = { λ n. record { count = n } };
-}
-
-impl Partitions {
-    /// The number where nothing is said.
-    pub fn usual() -> Partitions
-        ensures { result ≡ spec.default_partitions }
-    {
-        Partitions { count: 4 }
-    }
-
-    /// So many, where that is a number of partitions.
-    fn new(count: u32) -> Option<Partitions>
-        ensures { result ≡ spec.in_range (Some count) }
-    {
-        if count >= 1 && count <= 64 {
-            Some(Partitions { count })
-        } else {
-            None
-        }
-    }
-
-    /// How many they are.
-    pub fn count(self) -> u32
-        ensures same { result ≡ self }
-        ensures some { 0 < result }
-    {
-        self.count
-    }
-}
 
 /// What a command does with its script.
 #[derive(Clone, Copy, Debug, PartialEq, Eq)]
 pub enum Request {
     /// It writes the answer of the query.
     Query,
-    /// It writes the text of the plan for so many partitions.
-    Explain { partitions: Partitions },
+    /// It writes the text of the plan for so many partitions, from 1 to 64.
+    Explain { partitions: u32 },
 }
 
 /// A request, and the path of its script.
@@ -67,6 +21,9 @@ pub struct Requested<'a> {
     pub request: Request,
     pub script: &'a Text,
 }
+
+/// The number of partitions where nothing is said.
+pub const DEFAULT_PARTITIONS: u32 = 4;
 
 /// Whether a word may name a file: it isn't empty and doesn't begin with `-`.
 fn is_plain(word: &[u8]) -> bool
@@ -80,8 +37,9 @@ fn is_plain(word: &[u8]) -> bool
 
 /// The number that digits write, as far as it is a number of partitions.
 #[tactic(auto, using(crate::proofs::WordSteps::too_great))]
-fn number_of(digits: &[u8]) -> Option<Partitions>
-    ensures { result ≡ spec.in_range (spec.number_after 0 digits.now) }
+fn number_of(digits: &[u8]) -> Option<u32>
+    ensures number { result ≡ spec.in_range (spec.number_after 0 digits.now) }
+    ensures some { IfSome result (λ n. 0 < n) }
 {
     let mut number: u32 = 0;
     for byte in digits {
@@ -93,12 +51,17 @@ fn number_of(digits: &[u8]) -> Option<Partitions>
         }
         number = number * 10 + u32::from(*byte - b'0');
     }
-    Partitions::new(number)
+    if number >= 1 && number <= 64 {
+        Some(number)
+    } else {
+        None
+    }
 }
 
 /// The number of partitions that a word writes: 1 to 20 digits, from 1 to 64.
-fn partitions_of(word: &[u8]) -> Option<Partitions>
-    ensures { result ≡ spec.partitions_of word.now }
+fn partitions_of(word: &[u8]) -> Option<u32>
+    ensures number { result ≡ spec.partitions_of word.now }
+    ensures some { IfSome result (λ n. 0 < n) }
 {
     if word.len() >= 1 && word.len() <= 20 {
         number_of(word)
@@ -109,7 +72,8 @@ fn partitions_of(word: &[u8]) -> Option<Partitions>
 
 /// The request of a command's name and its file.
 fn plain_request<'a>(name: &Text, script: &'a Text) -> Option<Requested<'a>>
-    ensures { option_map spec.viewed result ≡ spec.plain_request name.now script.now }
+    ensures request { option_map spec.viewed result ≡ spec.plain_request name.now script.now }
+    ensures some { IfSome result (λ r. 0 < partitions_for r.request) }
 {
     if name.as_str() == "query" {
         Some(Requested {
@@ -119,7 +83,7 @@ fn plain_request<'a>(name: &Text, script: &'a Text) -> Option<Requested<'a>>
     } else if name.as_str() == "explain" {
         Some(Requested {
             request: Request::Explain {
-                partitions: Partitions::usual(),
+                partitions: DEFAULT_PARTITIONS,
             },
             script,
         })
@@ -130,8 +94,9 @@ fn plain_request<'a>(name: &Text, script: &'a Text) -> Option<Requested<'a>>
 
 /// The request to explain a file with a number of partitions.
 fn explained<'a>(script: &'a Text, number: &Text) -> Option<Requested<'a>>
-    ensures { option_map spec.viewed result
+    ensures request { option_map spec.viewed result
         ≡ spec.explained script.now (spec.partitions_of number.now) }
+    ensures some { IfSome result (λ r. 0 < partitions_for r.request) }
 {
     match partitions_of(number.bytes()) {
         Some(partitions) => Some(Requested {
@@ -142,9 +107,11 @@ fn explained<'a>(script: &'a Text, number: &Text) -> Option<Requested<'a>>
     }
 }
 
-/// What the words `query FILE`, `explain FILE` or `explain FILE --partitions N` ask for; none where they are refused.
+/// What the words `query FILE`, `explain FILE` or `explain FILE --partitions N` ask for, over at least one partition; none where
+/// they are refused.
 pub fn request_of(words: &[Text]) -> Option<Requested<'_>>
-    ensures { option_map spec.viewed result ≡ spec.request_of words.now }
+    ensures request { option_map spec.viewed result ≡ spec.request_of words.now }
+    ensures some { IfSome result (λ r. 0 < partitions_for r.request) }
 {
     match words {
         [name, script] => {

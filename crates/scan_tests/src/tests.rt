@@ -31,35 +31,61 @@ fn files_of(rt: &impl Abort, alloc: Global, second: bool) -> Result<MemFiles, Fa
     Ok(MemFiles::new(alloc, files, failing))
 }
 
-/// `SELECT a AS p, b AS q FROM t`
-fn query(alloc: Global) -> Result<Query, Fail> {
-    let mut names = Vec::new(alloc);
-    names.push(text(alloc, "p")?)?;
-    names.push(text(alloc, "q")?)?;
+fn scan(alloc: Global) -> Result<Logical, Fail> {
     let kinds = Items::from_slice(alloc, &[Kind::Int, Kind::Text])?;
-    Ok(Query {
-        names: Seq::from_vec(names),
-        body: Logical::Scan { table: 0, kinds },
-        order: Seq::from_vec(Vec::new(alloc)),
-        offset: 0,
-        limit: None,
-    })
+    Ok(Logical::Scan { table: 0, kinds })
 }
 
-/// Why the query has no answer over both files, if so.
+fn texts(alloc: Global, first: &str, second: &str) -> Result<Vec<Text>, Fail> {
+    let mut texts = Vec::new(alloc);
+    texts.push(text(alloc, first)?)?;
+    texts.push(text(alloc, second)?)?;
+    Ok(texts)
+}
+
+/// Why the query has no answer, if so.
+fn refused_by(
+    alloc: Global,
+    body: Logical,
+    names: Vec<Text>,
+    paths: &[Text],
+    files: &mut MemFiles,
+    sink: &mut MemSink,
+) -> Option<RunRefused> {
+    if !is_chain(&body) || !has_sound_kinds(&body) || paths.len() > 2 {
+        return None;
+    }
+    let order = Vec::new(alloc);
+    let query = Query {
+        names: Seq::from_vec(names),
+        body,
+        order: Seq::from_vec(order),
+        offset: 0,
+        limit: None,
+    };
+    run_chain(alloc, &query, paths, files, sink).err()
+}
+
+/// The same of `SELECT a AS p, b AS q FROM t` over these paths.
+fn refused_at(
+    alloc: Global,
+    paths: &[Text],
+    files: &mut MemFiles,
+    sink: &mut MemSink,
+) -> Result<Option<RunRefused>, Fail> {
+    let body = scan(alloc)?;
+    let names = texts(alloc, "p", "q")?;
+    Ok(refused_by(alloc, body, names, paths, files, sink))
+}
+
+/// The same over both files.
 fn refused(
     alloc: Global,
     files: &mut MemFiles,
     sink: &mut MemSink,
 ) -> Result<Option<RunRefused>, Fail> {
-    let query = query(alloc)?;
-    let mut paths = Vec::new(alloc);
-    paths.push(text(alloc, "1.csv")?)?;
-    paths.push(text(alloc, "2.csv")?)?;
-    if !is_chain(&query.body) || !has_sound_kinds(&query.body) || paths.len() > 2 {
-        return Ok(None);
-    }
-    Ok(run_chain(alloc, &query, paths.as_slice(), files, sink).err())
+    let paths = texts(alloc, "1.csv", "2.csv")?;
+    refused_at(alloc, &paths, files, sink)
 }
 
 #[test]

@@ -9,4 +9,5 @@ returns c = record {
   queries = λ script schemas ts q t w h e. (bound_kinded script schemas ts q t w h e).body;
   names = λ script schemas ts q t w h e. (bound_kinded script schemas ts q t w h e).names;
   spelled = λ text tokens script q p e. (declared_kinded script q (spelled text tokens script p) e).body;
+  named = λ text tokens script q p e. (declared_kinded script q (spelled text tokens script p) e).names;
 }

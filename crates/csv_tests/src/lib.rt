@@ -1,0 +1,5 @@
+//! Tests of the CSV readers: records in blocks, and files as columns.
+#![tactic(auto)]
+
+#[cfg(test)]
+mod records;
