@@ -12,7 +12,7 @@ use Rattle.core_frame.specs.declared.place.Place.{Place}
 use Rattle.core_frame.specs.declared.place.Place.TheVariants.{Woken, OwnedBy, Done}
 use Rattle.run_journal.specs.declared.entry.EntryKind.TheVariants.{Claimed, Failed}
 use Rattle.run_journal.specs.declared.cause.Cause.TheVariants.{NoMemory}
-use Rattle.task_shape.specs.Numbers.{one, count, without}
+use Rattle.task_shape.specs.Numbers.{one, count, without, IsDistinctBelow}
 use Rattle.core_frame.specs.Good.{IsSound}
 use Rattle.task_shape.proofs.Numbers.{one_same, one_no, one_yes}
 use Rattle.core_frame.proofs.Places.{place_cases, length_wake_all}
@@ -159,6 +159,9 @@ module _ {B : Type 0} (p : Shape) (gs : List (Grouped B)) (pool : Pool) (queue :
   claims_at : get_or (wake_all queue ps) (get_or queue i 0) Done ≡ Woken
   claims_at = queue_place p (frame_of gs pool queue ps pr fl) i claims_sound h
 
+  pub claims_woken : get_or (wake_all queue ps) task Done ≡ Woken
+  claims_woken = rw et claims_at
+
   pub claims_inside : task < length ps
   claims_inside =
       let inside : get_or queue i 0 < length (wake_all queue ps) = place_inside (wake_all queue ps) (get_or queue i 0) claims_at in
@@ -175,9 +178,30 @@ module _ {B : Type 0} (p : Shape) (gs : List (Grouped B)) (pool : Pool) (queue :
       ∙ (get_or-set_same (wake_all queue ps) task (OwnedBy w) Done (let l : length (wake_all queue ps) ≡ length ps = length_wake_all queue ps in let y : task < length ps = claims_inside in omega arith) ∙ z))
       (length-set pr task false) e k.rooms refl
 
-  pub claim_fails : (n : Need B) → frame_step p (frame_of gs pool queue ps pr fl) (record { worker = w; task = task; kind = Failed NoMemory }) n ≡ Some (frame_of gs pool queue ps pr (Some NoMemory))
+  pub claim_fails : (queue2 : List ℕ) → queue2 ≡ queue → (n : Need B) → frame_step p (frame_of gs pool queue ps pr fl) (record { worker = w; task = task; kind = Failed NoMemory }) n ≡ Some (frame_of gs pool queue2 ps pr (Some NoMemory))
   unfolding failed
-  claim_fails n = failed_claim_step p (frame_of gs pool queue ps pr fl) task w n (rw et claims_at) free ok
+  claim_fails queue2 eq n = failed_claim_step p (frame_of gs pool queue ps pr fl) task w n (rw et claims_at) free ok ∙ ap (λ q. Some (frame_of gs pool q ps pr (Some NoMemory))) (sym eq)
 
-  pub claim_fails_running : IsRunning p gs pool queue room ps pr (Some NoMemory) left
-  claim_fails_running = running_going p gs gs pool pool queue queue room room ps pr pr fl (Some NoMemory) left (record { worker = w; task = task; kind = Failed NoMemory }) Scan k tt (claim_fails Scan) refl refl refl k.rooms refl
+  pub claim_fails_running : (queue2 : List ℕ) → queue2 ≡ queue → (room2 : ℕ) → room2 ≡ room → IsRunning p gs pool queue2 room2 ps pr (Some NoMemory) left
+  claim_fails_running queue2 eq room2 e = running_going p gs gs pool pool queue queue2 room room2 ps pr pr fl (Some NoMemory) left (record { worker = w; task = task; kind = Failed NoMemory }) Scan k tt (claim_fails queue2 eq Scan) refl refl e k.rooms refl
+
+-- the queue holds each task once, and has room for it
+pub queue_distinct : {B : Type 0} (p : Shape) (gs : List (Grouped B)) (pool : Pool) (queue : List ℕ) (room : ℕ) (ps : List Place) (pr : List Bool) (fl : Option Cause) (left : ℕ) → IsRunning p gs pool queue room ps pr fl left → IsDistinctBelow queue room
+queue_distinct {B} p gs pool queue room ps pr fl left k = record { once = once; below = below }
+  where
+    s : IsSound p (frame_of gs pool queue ps pr fl)
+    s = sound p (frame_of gs pool queue ps pr fl) k.lawful
+
+    once : (t : ℕ) → count t queue ≤ 1
+    once t = elim (place_cases (get_or (wake_all queue ps) t Done) Woken) [
+      | inl e ↦ (let o : count t queue ≡ 1 = s.queue t e in omega arith)
+      | inr n ↦ (let o : count t queue ≡ 0 = s.queue_only t n in omega arith)
+    ]
+
+    below : (t : ℕ) → 0 < count t queue → t < room
+    below t h = elim (place_cases (get_or (wake_all queue ps) t Done) Woken) [
+      | inl e ↦ (let i : t < length (wake_all queue ps) = place_inside (wake_all queue ps) t e in
+          let l : length (wake_all queue ps) ≡ length ps = length_wake_all queue ps in
+          let r : room ≡ length ps = k.queue_room in omega arith)
+      | inr n ↦ absurd (let o : count t queue ≡ 0 = s.queue_only t n in omega arith)
+    ]

@@ -98,7 +98,7 @@ pub leave_drops : {B : Type 0} (p : Shape) (t : ℕ) (gs : List (Grouped B)) (v 
 leave_drops p t gs v pool k = record { shape = p; places = k.places; stands = k.stands; inside = k.plan.plan.inside t }
 
 pub leave_consumers : {B : Type 0} (p : Shape) (t : ℕ) (gs : List (Grouped B)) (v : Ready) (pool : Pool) → IsEnding p t gs v pool → (c : ℕ) → has (task_at p t).consumers c ≡ true → c < length pool.spillable
-leave_consumers p t gs v pool k c h = subst (λ xs. c < length xs) (sym k.spillable) (k.plan.consumers t c h)
+leave_consumers p t gs v pool k c h = subst (λ xs. c < length xs) (sym k.spillable) (k.plan.owners.within t c h)
 
 pub leave_frame : {B : Type 0} (s : TaskShape) (gs gs1 gs2 : List (Grouped B)) (q q1 q2 : List ℕ) (pool pool2 : Pool) (places : List Place) (progress : List Bool) (failure : Option Cause)
     → ((pool : Pool) (places : List Place) (progress : List Bool) (failure : Option Cause) → ◌≡◌ {A = Frame B} (frame_of gs1 pool q1 places progress failure) (drops s.receives (frame_of gs pool q places progress failure)))

@@ -5,7 +5,6 @@ use Rattle.std.proofs.lemmas.Bool.Decides.{leb_tells, eqb_tells}
 use Rattle.std.proofs.Math.ListN.{length-set}
 use Rattle.run_journal.specs.declared.cause.Cause.{Cause}
 use Rattle.run_journal.specs.declared.cause.Cause.TheVariants.{Exhausted}
-use Rattle.run_journal.specs.declared.entry.Entry.{Entry}
 use Rattle.run_journal.specs.declared.entry.EntryKind.TheVariants.{Granted, Refused, Failed}
 use Rattle.run_journal.proofs.SameKind.{kind_same}
 use Rattle.gate_channels.specs.Group.{Grouped}
@@ -16,7 +15,6 @@ use Rattle.core_frame.specs.declared.place.Place.{Place}
 use Rattle.core_frame.specs.declared.place.Place.TheVariants.{OwnedBy, Done}
 use Rattle.core_frame.specs.Step.{Grow, frame_step, goes_on, with_pool, failed, progress_is, wake_all}
 use Rattle.run_frame.specs.Running.{IsRunning, frame_of}
-use Rattle.run_frame.specs.Answers.{entry_of}
 use Rattle.run_frame.proofs.Kept.{running_going}
 use Rattle.run_frame.proofs.Owners.{some_owned}
 
@@ -59,9 +57,6 @@ module _ {B : Type 0} (p : Shape) (gs : List (Grouped B)) (pool pool2 : Pool) (q
   unfolding progress_is with_pool
   granted_frame h e = granted_step p (frame_of gs pool queue ps pr fl) w t c bytes at ok (grants_yes pool c bytes h) ∙ ap (λ x. Some (frame_of gs x queue ps (set pr t true) fl)) (sym e)
 
-  pub granted_entry : held_by pool c + bytes ≤ share_of pool c → ◌≡◌ {A = Entry} (record { worker = w; task = t; kind = Granted }) (entry_of {B = B} (record { shape = p; frame = frame_of gs pool queue ps pr fl }) w t (Grow c bytes))
-  granted_entry h = rw (grants_yes pool c bytes h) refl
-
   pub granted_running : held_by pool c + bytes ≤ share_of pool c → pool2 ≡ with_held pool c (held_by pool c + bytes) → IsRunning p gs pool2 queue room ps (set pr t true) fl left
   granted_running h e = running_going p gs gs pool pool2 queue queue room room ps pr (set pr t true) fl fl left (record { worker = w; task = t; kind = Granted }) (Grow c bytes) k own (granted_frame h e) refl (length-set pr t true) refl k.rooms (ap (λ (x : Pool). x.spillable) e)
 
@@ -70,9 +65,6 @@ module _ {B : Type 0} (p : Shape) (gs : List (Grouped B)) (pool pool2 : Pool) (q
   unfolding progress_is
   refused_frame h e s = refused_step p (frame_of gs pool queue ps pr fl) w t c bytes at ok (grants_no pool c bytes h) s ∙ ap (λ x. Some (frame_of gs x queue ps (set pr t true) fl)) (sym e)
 
-  pub refused_entry : share_of pool c < held_by pool c + bytes → can_spill pool c && not (eqb (held_by pool c) 0) ≡ true → ◌≡◌ {A = Entry} (record { worker = w; task = t; kind = Refused }) (entry_of {B = B} (record { shape = p; frame = frame_of gs pool queue ps pr fl }) w t (Grow c bytes))
-  refused_entry h s = rw (grants_no pool c bytes h, s) refl
-
   pub refused_running : share_of pool c < held_by pool c + bytes → pool2 ≡ pool → can_spill pool c && not (eqb (held_by pool c) 0) ≡ true → IsRunning p gs pool2 queue room ps (set pr t true) fl left
   refused_running h e s = running_going p gs gs pool pool2 queue queue room room ps pr (set pr t true) fl fl left (record { worker = w; task = t; kind = Refused }) (Grow c bytes) k own (refused_frame h e s) refl (length-set pr t true) refl k.rooms (ap (λ (x : Pool). x.spillable) e)
 
@@ -80,10 +72,6 @@ module _ {B : Type 0} (p : Shape) (gs : List (Grouped B)) (pool pool2 : Pool) (q
       → frame_step p (frame_of gs pool queue ps pr fl) (record { worker = w; task = t; kind = Failed (Exhausted bytes (held_by pool c) (share_of pool c)) }) (Grow c bytes) ≡ Some (frame_of gs pool2 queue ps pr (Some (Exhausted bytes (held_by pool c) (share_of pool c))))
   unfolding failed
   exhausted_frame h e s = exhausted_step p (frame_of gs pool queue ps pr fl) w t c bytes at ok (grants_no pool c bytes h) s ∙ ap (λ x. Some (frame_of gs x queue ps pr (Some (Exhausted bytes (held_by pool c) (share_of pool c))))) (sym e)
-
-  pub exhausted_entry : share_of pool c < held_by pool c + bytes → can_spill pool c && not (eqb (held_by pool c) 0) ≡ false
-      → ◌≡◌ {A = Entry} (record { worker = w; task = t; kind = Failed (Exhausted bytes (held_by pool c) (share_of pool c)) }) (entry_of {B = B} (record { shape = p; frame = frame_of gs pool queue ps pr fl }) w t (Grow c bytes))
-  exhausted_entry h s = rw (grants_no pool c bytes h, s) refl
 
   pub exhausted_running : share_of pool c < held_by pool c + bytes → pool2 ≡ pool → can_spill pool c && not (eqb (held_by pool c) 0) ≡ false → IsRunning p gs pool2 queue room ps pr (Some (Exhausted bytes (held_by pool c) (share_of pool c))) left
   exhausted_running h e s = running_going p gs gs pool pool2 queue queue room room ps pr pr fl (Some (Exhausted bytes (held_by pool c) (share_of pool c))) left (record { worker = w; task = t; kind = Failed (Exhausted bytes (held_by pool c) (share_of pool c)) }) (Grow c bytes) k own (exhausted_frame h e s) refl refl refl k.rooms (ap (λ (x : Pool). x.spillable) e)

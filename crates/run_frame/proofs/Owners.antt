@@ -36,7 +36,7 @@ scanned_step p f w t at ok = rw (some_owned f.places t w at, ok, at, eq-eqb w w 
 wrote_step : {B : Type 0} (p : Shape) (f : Frame B) (w t : ℕ) → place_of f t ≡ OwnedBy w → f.failure ≡ None → frame_step p f (record { worker = w; task = t; kind = Wrote }) Writes ≡ Some (goes_on f t)
 wrote_step p f w t at ok = rw (some_owned f.places t w at, ok, at, eq-eqb w w refl) refl
 
-yielded_step : {B : Type 0} (p : Shape) (f : Frame B) (w t : ℕ) (n : Need B) → place_of f t ≡ OwnedBy w → f.failure ≡ None → get_or f.progress t false ≡ true → frame_step p f (record { worker = w; task = t; kind = Yielded }) n ≡ Some (yielded f t)
+pub yielded_step : {B : Type 0} (p : Shape) (f : Frame B) (w t : ℕ) (n : Need B) → place_of f t ≡ OwnedBy w → f.failure ≡ None → get_or f.progress t false ≡ true → frame_step p f (record { worker = w; task = t; kind = Yielded }) n ≡ Some (yielded f t)
 yielded_step p f w t n at ok made = rw (some_owned f.places t w at, ok, at, eq-eqb w w refl, made) refl
 
 freed_step : {B : Type 0} (p : Shape) (f : Frame B) (w t c bytes : ℕ) → place_of f t ≡ OwnedBy w → f.failure ≡ None → frame_step p f (record { worker = w; task = t; kind = Freed }) (Free c bytes) ≡ Some (goes_on (with_pool f (with_held f.pool c 0)) t)
@@ -57,10 +57,15 @@ failed_step p f w t cause at ok = rw (some_owned f.places t w at, ok, at, eq-eqb
 failed_device : {B : Type 0} (p : Shape) (f : Frame B) (w t : ℕ) (cause : Cause) (n : Need B) → place_of f t ≡ OwnedBy w → f.failure ≡ None → may_fail (Failed cause) ≡ true → frame_step p f (record { worker = w; task = t; kind = Failed cause }) n ≡ Some (failed f cause)
 failed_device p f w t cause n at ok m = rw (some_owned f.places t w at, ok, at, eq-eqb w w refl, m) refl
 
+pub failed_is : {B : Type 0} (gs : List (Grouped B)) (pool : Pool) (queue : List ℕ) (ps : List Place) (pr : List Bool) (fl : Option Cause) (cause : Cause)
+    → ◌≡◌ {A = Frame B} (frame_of gs pool queue ps pr (Some cause)) (failed (frame_of gs pool queue ps pr fl) cause)
+unfolding failed
+failed_is gs pool queue ps pr fl cause = refl
+
 -- a consumer of a task is one of the pool
 pub consumer_inside : {B : Type 0} (p : Shape) (gs : List (Grouped B)) (pool : Pool) (queue : List ℕ) (room : ℕ) (ps : List Place) (pr : List Bool) (fl : Option Cause) (left t c : ℕ)
     → IsRunning p gs pool queue room ps pr fl left → has (task_at p t).consumers c ≡ true → c < length pool.spillable
-consumer_inside p gs pool queue room ps pr fl left t c k own = subst (λ xs. c < length xs) (sym k.spillable) (k.plan.consumers t c own)
+consumer_inside p gs pool queue room ps pr fl left t c k own = subst (λ xs. c < length xs) (sym k.spillable) (k.plan.owners.within t c own)
 
 module _ {B : Type 0} (p : Shape) (gs : List (Grouped B)) (pool : Pool) (queue : List ℕ) (room : ℕ) (ps : List Place) (pr : List Bool) (fl : Option Cause) (left w t : ℕ)
     (k : IsRunning p gs pool queue room ps pr fl left) (ok : fl ≡ None) (at : get_or (wake_all queue ps) t Done ≡ OwnedBy w) where

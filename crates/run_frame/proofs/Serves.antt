@@ -4,7 +4,7 @@ use Rattle.std.proofs.lemmas.Bool.{eq-eqb}
 use Rattle.std.proofs.lemmas.List.{map-set, set-get_or, length-map}
 use Rattle.gate_channels.specs.Gate.{Gate, Moved, no_gate, channel_at, is_open, some_live, sent, held}
 use Rattle.gate_channels.specs.Queue.{Ready}
-use Rattle.core_frame.specs.Step.{wake_all, Send, frame_step, moved, goes_on, wake, put_gate, move_to, progress_is}
+use Rattle.core_frame.specs.Step.{wake_all, Send, made, frame_step, moved, goes_on, wake, put_gate, move_to, progress_is}
 use Rattle.task_shape.specs.Shape.{Shape, task_at}
 use Rattle.fair_pool.specs.Share.{Pool}
 use Rattle.run_journal.specs.declared.cause.Cause.{Cause}
@@ -19,6 +19,7 @@ use Rattle.gate_channels.specs.Group.{Grouped, WaitApart, KeepsSize}
 use Rattle.core_frame.proofs.Places.{place_cases}
 use Rattle.gate_channels.specs.declared.group.Sending.TheVariants as answers
 use Rattle.run_frame.specs.Running.{IsRunning, AllAre, OwnersStand, count_unfinished, frame_of}
+use Rattle.run_frame.specs.Answers.{is_received}
 use Rattle.run_frame.proofs.Owners.{some_owned, owned_inside, owned_fresh}
 use Rattle.run_frame.proofs.Kept.{running_going, running_put}
 use Rattle.task_shape.specs.Shape.{width, has, receives_at}
@@ -39,6 +40,9 @@ frame_is {B} pool failure a1 a2 b1 b2 c1 c2 d1 d2 ea eb ec ed =
 sent_step : {B : Type 0} (p : Shape) (f : Frame B) (w t g c : ℕ) (b : B) → place_of f t ≡ OwnedBy w → f.failure ≡ None → (task_at p t).sends ≡ Some g → (channel_of f g c).live ≡ true → is_open (gate_of f g).channels ≡ true
     → frame_step p f (record { worker = w; task = t; kind = Sent }) (Send c b) ≡ Some (goes_on (moved f g (sent (gate_of f g) c b)) t)
 sent_step p f w t g c b at ok s l o = rw (some_owned f.places t w at, ok, at, eq-eqb w w refl, s, l, o) refl
+
+sent_kind : {B : Type 0} (p : Shape) (f : Frame B) (t g c : ℕ) (b : B) → (task_at p t).sends ≡ Some g → (channel_of f g c).live ≡ true → is_open (gate_of f g).channels ≡ true → (made p f t (Send c b)).kind ≡ Sent
+sent_kind p f t g c b s l o = rw (s, l, o) refl
 
 held_step : {B : Type 0} (p : Shape) (f : Frame B) (w t g c : ℕ) (b : B) → place_of f t ≡ OwnedBy w → f.failure ≡ None → (task_at p t).sends ≡ Some g → (channel_of f g c).live ≡ true → is_open (gate_of f g).channels ≡ false
     → frame_step p f (record { worker = w; task = t; kind = Held }) (Send c b) ≡ Some (move_to (put_gate f g (held (gate_of f g) t)) t (AtGate g) f.queue)
@@ -200,14 +204,20 @@ module _ {B : Type 0} (p : Shape) (gs : List (Grouped B)) (x x2 : Grouped B) (g 
   pub dropped_frame : (d : B) (last : Bool) → Sends x.gate t c b (answers.Dropped d last) x2.gate v.tasks v2.tasks → frame_step p (frame_of gs pool v.tasks ps pr fl) (record { worker = w; task = t; kind = Dropped }) (Send c b) ≡ Some (frame_of (set gs g x2) pool v2.tasks ps (set pr t true) fl)
   dropped_frame d last q = serves_dropped p gs x x2 g t w c b pool v.tasks v2.tasks ps pr fl ok send_group is at s d last q
 
-  pub dropped_last : (d : B) (last : Bool) → Sends x.gate t c b (answers.Dropped d last) x2.gate v.tasks v2.tasks → last ≡ not (some_live (gate_of (frame_of gs pool v.tasks ps pr fl) g).channels)
-  dropped_last d last q = q.2 ∙ ap (λ (y : Gate B). not (some_live y.channels)) (sym (map_read gs g x send_group is))
+  pub dropped_received : (d : B) (last : Bool) → Sends x.gate t c b (answers.Dropped d last) x2.gate v.tasks v2.tasks → last ≡ not (is_received (frame_of gs pool v.tasks ps pr fl) (task_at p t).sends)
+  dropped_received d last q = q.2 ∙ (ap (λ (y : Gate B). not (some_live y.channels)) (sym (map_read gs g x send_group is)) ∙ ap (λ o. not (is_received (frame_of gs pool v.tasks ps pr fl) o)) (sym s))
 
   pub dropped_running : (d : B) (last : Bool) → KeepsSize x x2 v v2 → Sends x.gate t c b (answers.Dropped d last) x2.gate v.tasks v2.tasks → IsRunning p (set gs g x2) pool v2.tasks v2.room ps (set pr t true) fl left
   dropped_running d last size q = running_going p gs (set gs g x2) pool pool v.tasks v2.tasks v.room v2.room ps pr (set pr t true) fl fl left (record { worker = w; task = t; kind = Dropped }) (Send c b) k (g, s, h) (dropped_frame d last q) refl (length-set pr t true) size.queue_room (rooms_after size) refl
 
   pub nothing_frame : (d : B) → Sends x.gate t c b (answers.NoMemory d) x2.gate v.tasks v2.tasks → ◌≡◌ {A = Frame B} (frame_of (set gs g x2) pool v2.tasks ps pr fl) (frame_of gs pool v.tasks ps pr fl)
   nothing_frame d q = serves_nothing p gs x x2 g t w c b pool v.tasks v2.tasks ps pr fl ok send_group is at s d q
+
+  -- it is a send that failed
+  pub nothing_kind : (d : B) → Sends x.gate t c b (answers.NoMemory d) x2.gate v.tasks v2.tasks → (made p (frame_of gs pool v.tasks ps pr fl) t (Send c b)).kind ≡ Sent
+  nothing_kind d q =
+      let gate : gate_of (frame_of gs pool v.tasks ps pr fl) g ≡ x.gate = map_read gs g x send_group is in
+      sent_kind p (frame_of gs pool v.tasks ps pr fl) t g c b s (ap (λ (y : Gate B). (channel_at y c).live) gate ∙ q.0) (ap (λ (y : Gate B). is_open y.channels) gate ∙ q.1)
 
   pub nothing_running : (d : B) → KeepsSize x x2 v v2 → Sends x.gate t c b (answers.NoMemory d) x2.gate v.tasks v2.tasks → IsRunning p (set gs g x2) pool v2.tasks v2.room ps pr fl left
   nothing_running d size q = record {

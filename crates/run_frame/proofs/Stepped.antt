@@ -153,7 +153,7 @@ stepped_made p f t w Finish sh k at o = stepped_finished p f t w sh k at
 stepped_made p f t w (Fail e) sh k at o = stepped_same f (failed f e) t w (Failed e) at refl refl
 
 -- ------------------------------------------------------------ by entry
-chosen : {A : Type 0} (b : Bool) (x y z : A) → cond b x y ≡ z → ((b ≡ true) × (x ≡ z)) ⊎ ((b ≡ false) × (y ≡ z))
+pub chosen : {A : Type 0} (b : Bool) (x y z : A) → cond b x y ≡ z → ((b ≡ true) × (x ≡ z)) ⊎ ((b ≡ false) × (y ≡ z))
 chosen true x y z e = inl (refl, e)
 chosen false x y z e = inr (refl, e)
 

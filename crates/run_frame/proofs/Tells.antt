@@ -1,20 +1,14 @@
--- What the questions tell, and what the answers of a send and a receive come to.
+-- What the questions tell.
 use Rattle.std.proofs.Common.{ℕ, zero, suc, ◌<◌, ◌≤◌, ◌≡◌, ◌≢◌, ◌⊎◌, inl, inr, refl, sym, ap, ◌∙◌, subst, List, [], ◌∷◌, length, get_or, set, eqb, Bool, true, false, ◌&&◌, not, Some, None, arith, get_or-set_same}
 use Rattle.std.proofs.Math.ListN.{length-set, get_or-eq_default}
 use Rattle.task_shape.proofs.Numbers.{same_or_not, lt_or_le}
-use Rattle.gate_channels.specs.declared.group.Sending.{Sending}
-use Rattle.gate_channels.specs.declared.group.Sending.TheVariants as answers
-use Rattle.gate_channels.specs.declared.group.Receiving.{Receiving}
-use Rattle.gate_channels.specs.declared.group.Receiving.TheVariants as takes
 use Rattle.fair_pool.specs.Share.{Pool, held_by, can_spill}
-use Rattle.task_shape.specs.Shape.{task_at}
 use Rattle.core_frame.specs.Frame.{unfinished}
 use Rattle.core_frame.specs.declared.place.Place.{Place}
 use Rattle.core_frame.specs.declared.place.Place.TheVariants.{Woken, OwnedBy, AtGate, AtChannel, Done}
-use Rattle.core_frame.specs.Step.{Send, Recv, wake_all, frame_step}
+use Rattle.core_frame.specs.Step.{wake_all}
 use Rattle.core_frame.proofs.Lists.{read_other}
-use Rattle.run_frame.specs.Running.{Running, OwnersStand, owner_at}
-use Rattle.run_frame.specs.Answers.{sending_entry, receiving_entry, Follows, HandsBack, Gives, Serves, Receives}
+use Rattle.run_frame.specs.Running.{OwnersStand, owner_at}
 
 pub read_default : {A : Type 0} (xs : List A) (i : ℕ) (x d : A) → i < length xs → x ≡ get_or xs i x → x ≡ get_or xs i d
 read_default [] i x d h e = absurd (omega arith)
@@ -53,29 +47,6 @@ kept_owner queue ps t x o h e = go x (read_default ps t x Done h e)
     go (AtGate g) k = not_owned (AtGate g) refl k
     go (AtChannel g c) k = not_owned (AtChannel g c) refl k
     go Done k = not_owned Done refl k
-
--- ------------------------------------------------------------ sends and receives
-pub serves_follows : {B : Type 0} (r new : Running B) (w t g c : ℕ) (b : B) (answer : Sending B) → Serves r w t g c b answer new → Follows r (sending_entry w t answer) (Send c b) new
-serves_follows r new w t g c b answers.Sent k = k
-serves_follows r new w t g c b (answers.Held d) k = k.1
-serves_follows r new w t g c b (answers.Dropped d last) k = k.2
-serves_follows r new w t g c b (answers.NoMemory d) k = k.1
-
-pub serves_back : {B : Type 0} (r new : Running B) (w t g c : ℕ) (b : B) (answer : Sending B) → (task_at r.shape t).sends ≡ Some g → Serves r w t g c b answer new → HandsBack r t b answer
-serves_back r new w t g c b answers.Sent s k = tt
-serves_back r new w t g c b (answers.Held d) s k = k.0
-serves_back r new w t g c b (answers.Dropped d last) s k = (k.0, rw s (k.1))
-serves_back r new w t g c b (answers.NoMemory d) s k = k.0
-
-pub receives_step : {B : Type 0} (r new : Running B) (w t g c : ℕ) (answer : Receiving B) → Receives r w t g c answer new → frame_step r.shape r.frame (receiving_entry w t answer) (Recv g c) ≡ Some new.frame
-receives_step r new w t g c (takes.Batch b) k = k.0
-receives_step r new w t g c takes.Empty k = k
-receives_step r new w t g c takes.Ended k = k
-
-pub receives_gives : {B : Type 0} (r new : Running B) (w t g c : ℕ) (answer : Receiving B) → Receives r w t g c answer new → Gives r g c answer
-receives_gives r new w t g c (takes.Batch b) k = k.1
-receives_gives r new w t g c takes.Empty k = tt
-receives_gives r new w t g c takes.Ended k = tt
 
 -- ------------------------------------------------------------ a consumer that can give back
 pub gives_is : (pool : Pool) (c : ℕ) (xs : List Bool) (spills gives : Bool) (held : ℕ) (v : Bool) → pool.spillable ≡ xs → spills ≡ get_or xs c false → held ≡ held_by pool c → gives ≡ (spills && not (eqb held 0)) → gives ≡ v

@@ -1,5 +1,5 @@
--- Words: what the calls of a run answer, and what they leave.
-use Rattle.std.specs.Prelude.{ℕ, ◌≡◌, Bool, not, List, ◌∷◌, Option, Some, None}
+-- Meaning: the step that each call of a run's frame makes, and what it answers.
+use Rattle.std.specs.Prelude.{ℕ, ◌≡◌, Bool, false, not, List, ◌∷◌, Option, Some, None}
 use Rattle.run_journal.specs.declared.entry.Entry.{Entry}
 use Rattle.run_journal.specs.declared.entry.EntryKind.{EntryKind}
 use Rattle.run_journal.specs.declared.entry.EntryKind.TheVariants.{Sent, Held, Dropped, Received, Empty, Ended}
@@ -17,55 +17,29 @@ use Rattle.run_frame.specs.Running.{Running}
 abbrev pub entry : ℕ → ℕ → EntryKind → Entry
 entry w t k = record { worker = w; task = t; kind = k }
 
--- the entry that the need of the task's owner and the frame give
-abbrev pub entry_of : {B : Type 0} → Running B → ℕ → ℕ → Need B → Entry
-entry_of r w t n = entry w t (made r.shape r.frame t n).kind
+-- a need of the task's owner is served: the kind and the frame after it are those that the need and the frame before it
+-- make, and the entry of that kind is one step
+pub record IsServed {B : Type 0} (r new : Running B) (w t : ℕ) (need : Need B) (k : EntryKind) : Type 0 where
+  pub kind : k ≡ (made r.shape r.frame t need).kind
+  pub frame : new.frame ≡ (made r.shape r.frame t need).frame
+  pub step : frame_step r.shape r.frame (entry w t k) need ≡ Some new.frame
+  pub shape : new.shape ≡ r.shape
 
--- the entry of a send, by its answer
-abbrev pub sending_entry : {B : Type 0} → ℕ → ℕ → Sending B → Option Entry
-sending_entry w t answers.Sent = Some (entry w t Sent)
-sending_entry w t (answers.Held d) = Some (entry w t Held)
-sending_entry w t (answers.Dropped d last) = Some (entry w t Dropped)
-sending_entry w t (answers.NoMemory d) = None
+-- somebody receives from a channel of the group, if there is one
+abbrev pub is_received : {B : Type 0} → Frame B → Option ℕ → Bool
+is_received f None = false
+is_received f (Some g) = some_live (gate_of f g).channels
 
--- the entry of a receive, by its answer
-abbrev pub receiving_entry : {B : Type 0} → ℕ → ℕ → Receiving B → Entry
-receiving_entry w t (takes.Batch b) = entry w t Received
-receiving_entry w t takes.Empty = entry w t Empty
-receiving_entry w t takes.Ended = entry w t Ended
+-- what sending a batch answers and leaves: a batch that isn't sent comes back, and where it is dropped, whether nobody
+-- receives in the group any more; want of memory stands in place of Sent, makes no entry and leaves all as it was
+abbrev pub ServesSend : {B : Type 0} → Running B → ℕ → ℕ → ℕ → B → Sending B → Running B → Type 0
+ServesSend r w t c b answers.Sent new = IsServed r new w t (Send c b) Sent
+ServesSend r w t c b (answers.Held d) new = (d ≡ b) × IsServed r new w t (Send c b) Held
+ServesSend r w t c b (answers.Dropped d last) new = (d ≡ b) × (last ≡ not (is_received r.frame (task_at r.shape t).sends)) × IsServed r new w t (Send c b) Dropped
+ServesSend r w t c b (answers.NoMemory d) new = (d ≡ b) × ((made r.shape r.frame t (Send c b)).kind ≡ Sent) × (new ≡ r)
 
--- one step of the frame by the entry, or nothing where there is none
-abbrev pub Follows : {B : Type 0} → Running B → Option Entry → Need B → Running B → Type 0
-Follows r None n new = new ≡ r
-Follows r (Some e) n new = frame_step r.shape r.frame e n ≡ Some new.frame
-
--- no channel of the group is live
-abbrev pub none_live : {B : Type 0} → Frame B → Option ℕ → Bool → Type 0
-none_live f None last = Unit {0}
-none_live f (Some g) last = last ≡ not (some_live (gate_of f g).channels)
-
--- a batch that isn't sent comes back; where it is dropped, whether nobody receives from any channel of the group
-abbrev pub HandsBack : {B : Type 0} → Running B → ℕ → B → Sending B → Type 0
-HandsBack r t b answers.Sent = Unit {0}
-HandsBack r t b (answers.Held d) = d ≡ b
-HandsBack r t b (answers.Dropped d last) = (d ≡ b) × none_live r.frame (task_at r.shape t).sends last
-HandsBack r t b (answers.NoMemory d) = d ≡ b
-
--- the batch that is received is the channel's first
-abbrev pub Gives : {B : Type 0} → Running B → ℕ → ℕ → Receiving B → Type 0
-Gives {B} r g c (takes.Batch b) = (rest : List B) × ((channel_of r.frame g c).batches ≡ b ∷ rest)
-Gives r g c takes.Empty = Unit {0}
-Gives r g c takes.Ended = Unit {0}
-
--- what sending to a channel of a group answers and leaves
-abbrev pub Serves : {B : Type 0} → Running B → ℕ → ℕ → ℕ → ℕ → B → Sending B → Running B → Type 0
-Serves r w t g c b answers.Sent new = frame_step r.shape r.frame (entry w t Sent) (Send c b) ≡ Some new.frame
-Serves r w t g c b (answers.Held d) new = (d ≡ b) × (frame_step r.shape r.frame (entry w t Held) (Send c b) ≡ Some new.frame)
-Serves r w t g c b (answers.Dropped d last) new = (d ≡ b) × (last ≡ not (some_live (gate_of r.frame g).channels)) × (frame_step r.shape r.frame (entry w t Dropped) (Send c b) ≡ Some new.frame)
-Serves r w t g c b (answers.NoMemory d) new = (d ≡ b) × (new ≡ r)
-
--- what receiving from a channel answers and leaves
-abbrev pub Receives : {B : Type 0} → Running B → ℕ → ℕ → ℕ → ℕ → Receiving B → Running B → Type 0
-Receives {B} r w t g c (takes.Batch b) new = (frame_step r.shape r.frame (entry w t Received) (Recv g c) ≡ Some new.frame) × ((rest : List B) × ((channel_of r.frame g c).batches ≡ b ∷ rest))
-Receives r w t g c takes.Empty new = frame_step r.shape r.frame (entry w t Empty) (Recv g c) ≡ Some new.frame
-Receives r w t g c takes.Ended new = frame_step r.shape r.frame (entry w t Ended) (Recv g c) ≡ Some new.frame
+-- what receiving from a channel answers and leaves: a batch is the channel's first
+abbrev pub ServesReceive : {B : Type 0} → Running B → ℕ → ℕ → ℕ → ℕ → Receiving B → Running B → Type 0
+ServesReceive {B} r w t g c (takes.Batch b) new = IsServed r new w t (Recv g c) Received × ((rest : List B) × ((channel_of r.frame g c).batches ≡ b ∷ rest))
+ServesReceive r w t g c takes.Empty new = IsServed r new w t (Recv g c) Empty
+ServesReceive r w t g c takes.Ended new = IsServed r new w t (Recv g c) Ended

@@ -2,3 +2,4 @@ pub mod Running
 pub mod Answers
 pub mod Leaving
 pub mod Counts
+pub mod Turns

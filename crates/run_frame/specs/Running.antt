@@ -1,9 +1,9 @@
 -- Words: what contracts see of a run's frame, and what it keeps.
-use Rattle.std.specs.Prelude.{ℕ, ◌+◌, ◌<◌, ◌≡◌, Bool, true, if◌then◌else◌, List, [], ◌∷◌, Option, Some, None, map, length, slice_index_or}
+use Rattle.std.specs.Prelude.{ℕ, ◌+◌, ◌≡◌, Bool, if◌then◌else◌, List, [], ◌∷◌, Option, Some, None, map, length, slice_index_or}
 use Rattle.run_journal.specs.declared.cause.Cause.{Cause}
 use Rattle.gate_channels.specs.Group.{Grouped}
 use Rattle.fair_pool.specs.Share.{Pool}
-use Rattle.task_shape.specs.Shape.{Shape, IsShape, task_at, has}
+use Rattle.task_shape.specs.Shape.{Shape, IsShape, HasOwners}
 use Rattle.core_frame.specs.Frame.{Frame, unfinished}
 use Rattle.core_frame.specs.declared.place.Place.{Place}
 use Rattle.core_frame.specs.declared.place.Place.TheVariants.{OwnedBy, Done}
@@ -15,10 +15,10 @@ pub record Running (B : Type 0) : Type 0 where
   pub shape : Shape
   pub frame : Frame B
 
--- a plan's shape whose tasks name consumers that there are
+-- a plan's shape, of which each consumer is one task's
 pub record IsRunnable (p : Shape) : Type 0 where
   pub plan : IsShape p
-  pub consumers : (t c : ℕ) → has (task_at p t).consumers c ≡ true → c < length p.spillable
+  pub owners : HasOwners p
 
 -- the worker that owns a task which is at this place
 abbrev pub owner_at : Place → Option ℕ

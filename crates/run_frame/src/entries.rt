@@ -7,48 +7,18 @@ ghost use Rattle.run_journal.specs.declared.entry.EntryKind.TheVariants.{Claimed
 ghost use Rattle.task_shape.specs.Shape.{task_at, has, receives_at};
 ghost use Rattle.core_frame.specs.Frame.{owns, place_of, unfinished};
 ghost use Rattle.core_frame.specs.declared.place.Place.TheVariants.{OwnedBy};
-ghost use Rattle.core_frame.specs.Step.{Need, Scan, Recv, Send, Grow, Free, Writes, Finish, Fail, frame_step, may_fail};
+ghost use Rattle.core_frame.specs.Step.{Need, Scan, Recv, Send, Grow, Free, Writes, Finish, Fail, frame_step, may_fail, claimed, yielded, failed};
 ghost use Rattle.core_frame.specs.Good.{IsOwn};
-ghost use Rattle.run_frame.specs.Answers.{entry_of, sending_entry, receiving_entry, Follows, HandsBack, Gives, Serves, Receives};
+ghost use Rattle.run_frame.specs.Answers.{entry, IsServed, ServesSend, ServesReceive};
 
-use crate::answers::{Received, Sent};
 use crate::finish::leave;
-use crate::machine::Machine;
+use crate::frame::RunFrame;
+use crate::queue::woken_at;
 use crate::shape::{can_spill, group_of};
 use core_frame::Place;
 use fair_pool::Exhausted;
 use gate_channels::{Receiving, Sending};
-use run_journal::{Cause, Entry, EntryKind};
-
-// An entry of this kind by the worker, about the task.
-fn entry(worker: u32, task: u32, kind: EntryKind) -> Entry
-    ensures { result ≡ record { worker = worker; task = task; kind = kind } }
-{
-    Entry { worker, task, kind }
-}
-
-// The entry of a send.
-fn entry_of_sending<B>(worker: u32, task: u32, answer: &Sending<B>) -> Option<Entry>
-    ensures { result ≡ sending_entry worker task answer.now }
-{
-    match answer {
-        Sending::Sent => Some(entry(worker, task, EntryKind::Sent)),
-        Sending::Held(_) => Some(entry(worker, task, EntryKind::Held)),
-        Sending::Dropped { batch: _, last: _ } => Some(entry(worker, task, EntryKind::Dropped)),
-        Sending::NoMemory(_) => None,
-    }
-}
-
-// The entry of a receive.
-fn entry_of_receiving<B>(worker: u32, task: u32, answer: &Receiving<B>) -> Entry
-    ensures { result ≡ receiving_entry worker task answer.now }
-{
-    match answer {
-        Receiving::Batch(_) => entry(worker, task, EntryKind::Received),
-        Receiving::Empty => entry(worker, task, EntryKind::Empty),
-        Receiving::Ended => entry(worker, task, EntryKind::Ended),
-    }
-}
+use run_journal::{Cause, EntryKind};
 
 // A consumer that can spill and holds something can give it back.
 fn gives_back(spills: bool, held: u64) -> bool
@@ -68,79 +38,68 @@ fn past_share(refused: Exhausted) -> Cause
     }
 }
 
-impl<B> Machine<B> {
-    /// Gives the woken task at a place of the queue to a worker that owns none. At the front it takes the same time
-    /// however many tasks are woken.
-    pub fn claim_at(&mut self, worker: u32, at: u32) -> Entry
+impl<B> RunFrame<B> {
+    /// Gives the woken task at a place of the queue, counted from 0, to a worker that owns none: the entry is Claimed. At
+    /// the front it takes the same time however many tasks are woken.
+    pub fn claim_at(&mut self, worker: u32, at: u32) -> u32
         requires alive { self.old.frame.failure ≡ None }
         requires inside { at < length self.old.frame.queue }
         requires free { owns worker self.old.frame.places ≡ false }
 
-        ensures entry { result ≡ record { worker = worker; task = slice_index self.old.frame.queue at; kind = Claimed } }
-        ensures step { (n : Need B) → frame_step self.old.shape self.old.frame result n ≡ Some self.new.frame }
+        ensures task { result ≡ slice_index self.old.frame.queue at }
+        ensures frame { self.new.frame ≡ claimed self.old.frame result worker }
+        ensures step { (need : Need B)
+            → frame_step self.old.shape self.old.frame (entry worker result Claimed) need ≡ Some self.new.frame }
         ensures shape { self.new.shape ≡ self.old.shape }
     {
         let task = self.woken.take(at);
         self.places[task as usize] = Place::OwnedBy(worker);
         self.progress[task as usize] = false;
-        Entry {
-            worker,
-            task,
-            kind: EntryKind::Claimed,
-        }
+        task
     }
 
-    /// The owner has scanned, and goes on.
-    pub fn scanned(&mut self, worker: u32, task: u32) -> Entry
+    /// The run fails, since memory was wanting for a claim of the woken task at a place of the queue by a worker that
+    /// owns none: the entry is Failed. It passes over the woken tasks behind that place.
+    pub fn fail_claim(&mut self, worker: u32, at: u32) -> u32
+        requires alive { self.old.frame.failure ≡ None }
+        requires inside { at < length self.old.frame.queue }
+        requires free { owns worker self.old.frame.places ≡ false }
+
+        ensures task { result ≡ slice_index self.old.frame.queue at }
+        ensures frame { self.new.frame ≡ failed self.old.frame NoMemory }
+        ensures step { (need : Need B)
+            → frame_step self.old.shape self.old.frame (entry worker result (Failed NoMemory)) need ≡ Some self.new.frame }
+        ensures shape { self.new.shape ≡ self.old.shape }
+    {
+        let task = woken_at(&mut self.woken, at);
+        self.failure = Some(Cause::NoMemory);
+        task
+    }
+
+    /// The owner has scanned, or has written a piece of the answer, and goes on: the entry is Scanned or Wrote.
+    pub fn go_on(&mut self, worker: u32, task: u32)
         requires alive { self.old.frame.failure ≡ None }
         requires owned { place_of self.old.frame task ≡ OwnedBy worker }
 
-        ensures entry { result ≡ record { worker = worker; task = task; kind = Scanned } }
-        ensures step { frame_step self.old.shape self.old.frame result Scan ≡ Some self.new.frame }
-        ensures shape { self.new.shape ≡ self.old.shape }
+        ensures scanned { IsServed self.old self.new worker task Scan Scanned }
+        ensures wrote { IsServed self.old self.new worker task Writes Wrote }
     {
         self.progress[task as usize] = true;
-        Entry {
-            worker,
-            task,
-            kind: EntryKind::Scanned,
-        }
     }
 
-    /// The owner has written a piece of the answer, and goes on.
-    pub fn wrote(&mut self, worker: u32, task: u32) -> Entry
-        requires alive { self.old.frame.failure ≡ None }
-        requires owned { place_of self.old.frame task ≡ OwnedBy worker }
-
-        ensures entry { result ≡ record { worker = worker; task = task; kind = Wrote } }
-        ensures step { frame_step self.old.shape self.old.frame result Writes ≡ Some self.new.frame }
-        ensures shape { self.new.shape ≡ self.old.shape }
-    {
-        self.progress[task as usize] = true;
-        Entry {
-            worker,
-            task,
-            kind: EntryKind::Wrote,
-        }
-    }
-
-    /// The owner gives the task to the end of the queue, after a progress entry.
-    pub fn yield_task(&mut self, worker: u32, task: u32) -> Entry
+    /// The owner gives the task to the end of the queue, after a progress entry: the entry is Yielded.
+    pub fn yield_back(&mut self, worker: u32, task: u32)
         requires alive { self.old.frame.failure ≡ None }
         requires owned { place_of self.old.frame task ≡ OwnedBy worker }
         requires progress { slice_index_or self.old.frame.progress task false ≡ true }
 
-        ensures entry { result ≡ record { worker = worker; task = task; kind = Yielded } }
-        ensures step { (n : Need B) → frame_step self.old.shape self.old.frame result n ≡ Some self.new.frame }
+        ensures frame { self.new.frame ≡ yielded self.old.frame task }
+        ensures step { (need : Need B)
+            → frame_step self.old.shape self.old.frame (entry worker task Yielded) need ≡ Some self.new.frame }
         ensures shape { self.new.shape ≡ self.old.shape }
     {
         self.places[task as usize] = Place::Woken;
         self.woken.push(task);
-        Entry {
-            worker,
-            task,
-            kind: EntryKind::Yielded,
-        }
     }
 
     // The group that a task that has not ended sends to.
@@ -159,8 +118,7 @@ impl<B> Machine<B> {
         requires sends { (task_at self.old.shape task).sends ≡ Some group }
         requires inside { has (task_at self.old.shape task).targets channel ≡ true }
 
-        ensures step { Serves self.old worker task group channel batch result self.new }
-        ensures shape { self.new.shape ≡ self.old.shape }
+        ensures answer { ServesSend self.old worker task channel batch result self.new }
     {
         let answer = self.groups[group as usize].try_send(task, channel, batch, &mut self.woken);
         match &answer {
@@ -172,32 +130,27 @@ impl<B> Machine<B> {
         answer
     }
 
-    /// The owner sends a batch to a channel of the group that it sends to. For want of memory nothing changes, and there
-    /// is no entry.
-    pub fn try_send(&mut self, worker: u32, task: u32, channel: u32, batch: B) -> Sent<B>
+    /// The owner sends a batch to a channel of the group that it sends to: the entry is Sent, or Held or Dropped with the
+    /// batch. For want of memory, in place of Sent, there is no entry, and all is as it was.
+    pub fn send(&mut self, worker: u32, task: u32, channel: u32, batch: B) -> Sending<B>
         requires alive { self.old.frame.failure ≡ None }
         requires owned { place_of self.old.frame task ≡ OwnedBy worker }
         requires own { IsOwn self.old.shape task (Send channel batch) }
 
-        ensures entry { result.entry ≡ sending_entry worker task result.answer }
-        ensures step { Follows self.old result.entry (Send channel batch) self.new }
-        ensures batch { HandsBack self.old task batch result.answer }
-        ensures shape { self.new.shape ≡ self.old.shape }
+        ensures answer { ServesSend self.old worker task channel batch result self.new }
     {
         let group = self.group_of(task);
-        let answer = self.send_to(worker, task, group, channel, batch);
-        let entry = entry_of_sending(worker, task, &answer);
-        Sent { answer, entry }
+        self.send_to(worker, task, group, channel, batch)
     }
 
-    // Takes a batch from a channel that the task receives from.
-    fn recv_from(&mut self, worker: u32, task: u32, group: u32, channel: u32) -> Receiving<B>
+    /// The owner takes a batch from a channel that it receives from: the entry is Received, Empty or Ended. It takes no
+    /// memory.
+    pub fn receive(&mut self, worker: u32, task: u32, group: u32, channel: u32) -> Receiving<B>
         requires alive { self.old.frame.failure ≡ None }
         requires owned { place_of self.old.frame task ≡ OwnedBy worker }
-        requires receives { receives_at self.old.shape task group channel ≡ true }
+        requires own { receives_at self.old.shape task group channel ≡ true }
 
-        ensures step { Receives self.old worker task group channel result self.new }
-        ensures shape { self.new.shape ≡ self.old.shape }
+        ensures answer { ServesReceive self.old worker task group channel result self.new }
     {
         let answer = self.groups[group as usize].try_recv(task, channel, &mut self.woken);
         match &answer {
@@ -208,84 +161,57 @@ impl<B> Machine<B> {
         answer
     }
 
-    /// The owner takes a batch from a channel that it receives from. It takes no memory.
-    pub fn try_recv(&mut self, worker: u32, task: u32, group: u32, channel: u32) -> Received<B>
-        requires alive { self.old.frame.failure ≡ None }
-        requires owned { place_of self.old.frame task ≡ OwnedBy worker }
-        requires own { receives_at self.old.shape task group channel ≡ true }
-
-        ensures entry { result.entry ≡ receiving_entry worker task result.answer }
-        ensures step { frame_step self.old.shape self.old.frame result.entry (Recv group channel) ≡ Some self.new.frame }
-        ensures batch { Gives self.old group channel result.answer }
-        ensures shape { self.new.shape ≡ self.old.shape }
-    {
-        let answer = self.recv_from(worker, task, group, channel);
-        let entry = entry_of_receiving(worker, task, &answer);
-        Received { answer, entry }
-    }
-
-    /// The owner's consumer reserves more bytes. Past its share it is refused where it can spill and holds something,
-    /// and else the run fails, as the entry tells. It takes no memory.
-    pub fn try_grow(&mut self, worker: u32, task: u32, consumer: u32, bytes: u64) -> Entry
+    /// The owner's consumer reserves more bytes: the entry is Granted. Past its share it is Refused where the consumer can
+    /// spill and holds something, and else the run has Failed, as the entry's kind tells. It takes no memory.
+    pub fn grow(&mut self, worker: u32, task: u32, consumer: u32, bytes: u64) -> EntryKind
         requires alive { self.old.frame.failure ≡ None }
         requires owned { place_of self.old.frame task ≡ OwnedBy worker }
         requires own { has (task_at self.old.shape task).consumers consumer ≡ true }
 
-        ensures entry { result ≡ entry_of self.old worker task (Grow consumer bytes) }
-        ensures step { frame_step self.old.shape self.old.frame result (Grow consumer bytes) ≡ Some self.new.frame }
-        ensures shape { self.new.shape ≡ self.old.shape }
+        ensures { IsServed self.old self.new worker task (Grow consumer bytes) result }
     {
         let spills = can_spill(&self.shape, consumer);
         match self.pool.try_grow(consumer, bytes) {
             Ok(()) => {
                 self.progress[task as usize] = true;
-                entry(worker, task, EntryKind::Granted)
+                EntryKind::Granted
             }
             Err(refused) => {
                 let gives = gives_back(spills, refused.held);
                 if gives {
                     self.progress[task as usize] = true;
-                    entry(worker, task, EntryKind::Refused)
+                    EntryKind::Refused
                 } else {
                     let cause = past_share(refused);
                     self.failure = Some(cause);
-                    entry(worker, task, EntryKind::Failed(cause))
+                    EntryKind::Failed(cause)
                 }
             }
         }
     }
 
-    /// The owner's consumer gives back all that it holds. It takes no memory.
-    pub fn free(&mut self, worker: u32, task: u32, consumer: u32) -> Entry
+    /// The owner's consumer gives back all that it holds: the entry is Freed. It takes no memory.
+    pub fn free(&mut self, worker: u32, task: u32, consumer: u32)
         requires alive { self.old.frame.failure ≡ None }
         requires owned { place_of self.old.frame task ≡ OwnedBy worker }
         requires own { has (task_at self.old.shape task).consumers consumer ≡ true }
 
-        ensures entry { result ≡ record { worker = worker; task = task; kind = Freed } }
-        ensures step { (bytes : ℕ) → frame_step self.old.shape self.old.frame result (Free consumer bytes) ≡ Some self.new.frame }
-        ensures shape { self.new.shape ≡ self.old.shape }
+        ensures { (bytes : ℕ) → IsServed self.old self.new worker task (Free consumer bytes) Freed }
     {
         let held = self.pool.held(consumer);
         self.pool.shrink(consumer, held);
         self.progress[task as usize] = true;
-        Entry {
-            worker,
-            task,
-            kind: EntryKind::Freed,
-        }
     }
 
     /// The task ends: its receivers are dropped by group, then channel; it ends as a sender by channel; and its consumers
-    /// hold nothing any more. It takes no memory.
-    pub fn finish(&mut self, worker: u32, task: u32) -> Entry
+    /// hold nothing any more. The entry is Finished. It takes no memory.
+    pub fn finish(&mut self, worker: u32, task: u32)
     where
         B: Drop,
         requires alive { self.old.frame.failure ≡ None }
         requires owned { place_of self.old.frame task ≡ OwnedBy worker }
 
-        ensures entry { result ≡ record { worker = worker; task = task; kind = Finished } }
-        ensures step { frame_step self.old.shape self.old.frame result Finish ≡ Some self.new.frame }
-        ensures shape { self.new.shape ≡ self.old.shape }
+        ensures { IsServed self.old self.new worker task Finish Finished }
     {
         leave(
             &mut self.groups,
@@ -296,29 +222,18 @@ impl<B> Machine<B> {
         );
         self.places[task as usize] = Place::Done;
         self.unfinished -= 1;
-        Entry {
-            worker,
-            task,
-            kind: EntryKind::Finished,
-        }
     }
 
-    /// The run fails, for the cause that the owner's need names, or since a device or memory failed in place of its entry.
-    pub fn fail(&mut self, worker: u32, task: u32, cause: Cause) -> Entry
+    /// The run fails: the entry is Failed, for the cause that the owner's need names, or since a device or memory failed in
+    /// place of an entry.
+    pub fn fail(&mut self, worker: u32, task: u32, cause: Cause)
         requires alive { self.old.frame.failure ≡ None }
         requires owned { place_of self.old.frame task ≡ OwnedBy worker }
 
-        ensures entry { result ≡ record { worker = worker; task = task; kind = Failed cause } }
-        ensures step { frame_step self.old.shape self.old.frame result (Fail cause) ≡ Some self.new.frame }
-        ensures device { may_fail (Failed cause) ≡ true
-            → (n : Need B) → frame_step self.old.shape self.old.frame result n ≡ Some self.new.frame }
-        ensures shape { self.new.shape ≡ self.old.shape }
+        ensures need { IsServed self.old self.new worker task (Fail cause) (Failed cause) }
+        ensures device { may_fail (Failed cause) ≡ true → (need : Need B)
+            → frame_step self.old.shape self.old.frame (entry worker task (Failed cause)) need ≡ Some self.new.frame }
     {
         self.failure = Some(cause);
-        Entry {
-            worker,
-            task,
-            kind: EntryKind::Failed(cause),
-        }
     }
 }

@@ -1,15 +1,12 @@
-//! The frame of a run in code: its groups, its pool, its queue and its places. Each call is one step of the machine, and
-//! gives the entry that it makes.
+//! The frame of a run in code: its groups, its pool, its queue and its places. Each call is one step of the frame.
 #![tactic(auto)]
 
-mod answers;
 mod entries;
 mod finish;
-mod machine;
+mod frame;
+mod queue;
 mod shape;
 mod start;
 
-pub use answers::{Received, Sent};
-pub use machine::Machine;
+pub use frame::RunFrame;
 pub use shape::{Shape, TaskShape};
-

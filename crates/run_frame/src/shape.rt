@@ -1,3 +1,5 @@
+//! The shape of a plan.
+
 ghost use Rattle.std.specs.Prelude.{◌≡◌, ℕ, ◌<◌, length, slice_index_or, false, Some};
 ghost use Rattle.task_shape.specs.Shape.{task_at};
 
