@@ -1,5 +1,5 @@
 -- What the questions tell.
-use Rattle.std.proofs.Common.{ℕ, zero, suc, ◌<◌, ◌≤◌, ◌≡◌, ◌≢◌, ◌⊎◌, inl, inr, refl, sym, ap, ◌∙◌, subst, List, [], ◌∷◌, length, get_or, set, eqb, Bool, true, false, ◌&&◌, not, Some, None, arith, get_or-set_same}
+use Rattle.std.proofs.Common.{ℕ, zero, suc, ◌<◌, ◌≤◌, ◌≡◌, ◌≢◌, ◌⊎◌, inl, inr, refl, sym, ap, ◌∙◌, subst, List, [], ◌∷◌, length, get_or, set, eqb, Bool, true, false, ◌&&◌, not, None, arith, get_or-set_same}
 use Rattle.std.proofs.Math.ListN.{length-set, get_or-eq_default}
 use Rattle.task_shape.proofs.Numbers.{same_or_not, lt_or_le}
 use Rattle.fair_pool.specs.Share.{Pool, held_by, can_spill}

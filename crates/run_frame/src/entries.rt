@@ -49,7 +49,8 @@ impl<B> RunFrame<B> {
         ensures task { result ≡ slice_index self.old.frame.queue at }
         ensures frame { self.new.frame ≡ claimed self.old.frame result worker }
         ensures step { (need : Need B)
-            → frame_step self.old.shape self.old.frame (entry worker result Claimed) need ≡ Some self.new.frame }
+            → frame_step self.old.shape self.old.frame (entry worker result Claimed) need
+            ≡ Some self.new.frame }
         ensures shape { self.new.shape ≡ self.old.shape }
     {
         let task = self.woken.take(at);
@@ -68,7 +69,8 @@ impl<B> RunFrame<B> {
         ensures task { result ≡ slice_index self.old.frame.queue at }
         ensures frame { self.new.frame ≡ failed self.old.frame NoMemory }
         ensures step { (need : Need B)
-            → frame_step self.old.shape self.old.frame (entry worker result (Failed NoMemory)) need ≡ Some self.new.frame }
+            → frame_step self.old.shape self.old.frame (entry worker result (Failed NoMemory)) need
+            ≡ Some self.new.frame }
         ensures shape { self.new.shape ≡ self.old.shape }
     {
         let task = woken_at(&mut self.woken, at);
@@ -95,7 +97,8 @@ impl<B> RunFrame<B> {
 
         ensures frame { self.new.frame ≡ yielded self.old.frame task }
         ensures step { (need : Need B)
-            → frame_step self.old.shape self.old.frame (entry worker task Yielded) need ≡ Some self.new.frame }
+            → frame_step self.old.shape self.old.frame (entry worker task Yielded) need
+            ≡ Some self.new.frame }
         ensures shape { self.new.shape ≡ self.old.shape }
     {
         self.places[task as usize] = Place::Woken;
@@ -232,7 +235,8 @@ impl<B> RunFrame<B> {
 
         ensures need { IsServed self.old self.new worker task (Fail cause) (Failed cause) }
         ensures device { may_fail (Failed cause) ≡ true → (need : Need B)
-            → frame_step self.old.shape self.old.frame (entry worker task (Failed cause)) need ≡ Some self.new.frame }
+            → frame_step self.old.shape self.old.frame (entry worker task (Failed cause)) need
+            ≡ Some self.new.frame }
     {
         self.failure = Some(cause);
     }

@@ -41,9 +41,13 @@ impl<B> Model for RunFrame<B> {
 
     ghost Value = { Running B };
 
-    ghost view = { λ m. record { shape = m.shape; frame = frame_of m.groups.items m.pool m.woken.tasks m.places.items m.progress.items m.failure } };
+    ghost view = { λ m. record {
+      shape = m.shape;
+      frame = frame_of m.groups.items m.pool m.woken.tasks m.places.items m.progress.items m.failure;
+    } };
 
-    ghost invariant = { λ m. IsRunning m.shape m.groups.items m.pool m.woken.tasks m.woken.room m.places.items m.progress.items m.failure m.unfinished };
+    ghost invariant = { λ m. IsRunning m.shape m.groups.items m.pool m.woken.tasks m.woken.room
+        m.places.items m.progress.items m.failure m.unfinished };
 }
 
 // The worker that owns a task at this place.

@@ -51,10 +51,12 @@ fn count_targets(senders: &mut Vec<u32>, targets: &[u32]) -> Result<(), NoMemory
 
 // Counts one sender more for each target, a channel of the group.
 fn count_in(senders: &mut Vec<Vec<u32>>, at: usize, targets: &[u32]) -> Result<(), NoMemory>
-    requires inside { (c : ℕ) → has targets.now c ≡ true → at < length senders.old.items
+    requires inside { (c : ℕ) → has targets.now c ≡ true
+        → at < length senders.old.items
         → c < length (slice_index_or (map (λ s. s.items) senders.old.items) at []) }
 
-    ensures { OnOk result (CountsAt at targets.now (map (λ s. s.items) senders.old.items) (map (λ s. s.items) senders.new.items)) }
+    ensures { OnOk result (CountsAt at targets.now
+        (map (λ s. s.items) senders.old.items) (map (λ s. s.items) senders.new.items)) }
 {
     if at < senders.len() {
         count_targets(&mut senders[at], targets)
@@ -65,10 +67,12 @@ fn count_in(senders: &mut Vec<Vec<u32>>, at: usize, targets: &[u32]) -> Result<(
 
 // Counts the task as a sender to each of its targets.
 fn count_task(senders: &mut Vec<Vec<u32>>, task: &TaskShape) -> Result<(), NoMemory>
-    requires inside { (g c : ℕ) → task.now.sends ≡ Some g → has task.now.targets c ≡ true → g < length senders.old.items
+    requires inside { (g c : ℕ) → task.now.sends ≡ Some g → has task.now.targets c ≡ true
+        → g < length senders.old.items
         → c < length (slice_index_or (map (λ s. s.items) senders.old.items) g []) }
 
-    ensures { OnOk result (CountsTask task.now.sends task.now.targets (map (λ s. s.items) senders.old.items) (map (λ s. s.items) senders.new.items)) }
+    ensures { OnOk result (CountsTask task.now.sends task.now.targets
+        (map (λ s. s.items) senders.old.items) (map (λ s. s.items) senders.new.items)) }
 {
     match task.sends {
         Some(group) => count_in(senders, group as usize, task.targets.as_slice()),
@@ -90,7 +94,8 @@ fn no_senders(alloc: Global, widths: &[u32]) -> Result<Vec<Vec<u32>>, NoMemory>
 // For each group, how many tasks may send to each of its channels.
 pub fn count_senders(alloc: Global, shape: &Shape) -> Result<Vec<Vec<u32>>, NoMemory>
     requires plan { IsShape shape.now }
-    ensures { IfOk result (λ senders. CountsSenders shape.now (length shape.now.tasks) (map (λ s. s.items) senders.items)) }
+    ensures { IfOk result (λ senders.
+        CountsSenders shape.now (length shape.now.tasks) (map (λ s. s.items) senders.items)) }
 {
     let mut senders = no_senders(alloc, shape.widths.as_slice())?;
     let tasks = shape.tasks.as_slice();
@@ -108,7 +113,8 @@ pub fn open_groups<B>(
 ) -> Result<Vec<Group<B>>, NoMemory>
 where
     B: Drop,
-    ensures gates { IfOk result (λ groups. map (λ g. g.gate) groups.items ≡ map (λ s. opened_gate s.items) senders.now) }
+    ensures gates { IfOk result (λ groups.
+        map (λ g. g.gate) groups.items ≡ map (λ s. opened_gate s.items) senders.now) }
     ensures rooms { IfOk result (λ groups. AllAre tasks (map (λ g. g.room) groups.items)) }
 {
     let mut groups = Vec::with_capacity(alloc, senders.len())?;

@@ -1,4 +1,4 @@
-use Rattle.std.proofs.Common.{◌≡◌, ◌<◌, ◌+◌, ◌-◌, suc, length, refl, sym, ap, ◌∙◌, subst, arith}
+use Rattle.std.proofs.Common.{◌+◌, ◌-◌, suc, length, ◌∙◌, subst, arith}
 use Rattle.run_frame.specs.Turns.{Turns}
 use Rattle.run_frame.proofs.Turning.{turns_start, turns_end, turns_inside, turns_on}
 use Rattle.run_frame.proofs.queue.woken_at.Goals as goal

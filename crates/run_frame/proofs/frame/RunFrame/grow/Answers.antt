@@ -1,5 +1,4 @@
 use Rattle.std.proofs.Common.{◌≡◌, true, false, None, refl, arith, sym, ap, ◌∙◌, subst}
-use Rattle.run_journal.specs.declared.cause.Cause.{Cause}
 use Rattle.run_journal.specs.declared.cause.Cause.TheVariants.{Exhausted}
 use Rattle.run_journal.specs.declared.entry.EntryKind.TheVariants.{Granted, Refused, Failed}
 use Rattle.fair_pool.specs.Share.{held_by, share_of}
