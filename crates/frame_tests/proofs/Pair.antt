@@ -1,5 +1,5 @@
 -- The plan may be run, and who owns its tasks.
-use Rattle.std.proofs.Common.{ℕ, zero, suc, ◌+◌, ◌<◌, ◌≡◌, refl, ap, List, [], ◌∷◌, length, get_or, Bool, true, false, ◌||◌, Option, Some, None, arith}
+use Rattle.std.proofs.Common.{ℕ, zero, suc, ◌≡◌, refl, sym, ap, eqb, List, [], ◌∷◌, length, get_or, Bool, true, false, ◌||◌, arith}
 use Rattle.std.proofs.lemmas.Bool.{eqb-true}
 use Rattle.task_shape.specs.Shape.{has, task_at}
 use Rattle.task_shape.proofs.ShapeTest.{is_shape}
@@ -9,11 +9,14 @@ use Rattle.core_frame.specs.declared.place.Place.TheVariants.{Woken, OwnedBy, At
 use Rattle.run_frame.specs.Running.{IsRunnable, owner_at}
 use Rattle.frame_tests.specs.Pair.{pair, is_worker}
 
+or_false : (b : Bool) → b || false ≡ true → b ≡ true
+or_false true e = refl
+or_false false e = e
+
 no_consumer : (t c : ℕ) → has (task_at pair t).consumers c ≡ true → (t ≡ 1) × (c ≡ 0)
-no_consumer zero c h = cc
-no_consumer (suc zero) zero h = (refl, refl)
-no_consumer (suc zero) (suc c) h = cc
-no_consumer (suc (suc t)) c h = cc
+no_consumer zero c h = absurd (let z : false ≡ true = h in (let x : ⊥ = cc in x))
+no_consumer (suc zero) c h = (refl, sym (eqb-true 0 c (or_false (eqb 0 c) h)))
+no_consumer (suc (suc t)) c h = absurd (let z : false ≡ true = h in (let x : ⊥ = cc in x))
 
 pub runnable : IsRunnable pair
 runnable = record {

@@ -1,5 +1,5 @@
 -- Words: the plan that the tests run: a root that receives what one task sends, whose consumer can spill.
-use Rattle.std.specs.Prelude.{ℕ, ◌==◌, Bool, true, false, List, [], ◌∷◌, Option, Some, None}
+use Rattle.std.specs.Prelude.{ℕ, ◌==◌, Bool, true, false, [], ◌∷◌, Option, Some, None}
 use Rattle.task_shape.specs.Shape.{Shape}
 
 abbrev pub pair : Shape
