@@ -1,12 +1,19 @@
 -- Numbers of up to 18 digits.
-use Rattle.std.proofs.Common.{◌≡◌, refl, ℕ, zero, suc, ◌+◌, ◌-◌, ◌*◌, ◌^◌, ◌≤◌, ◌<◌, ℤ, pos, negsuc, neg_ℤ, Bool, true, false, Option, Some, None, cond, unsigned_abs, lt-ltb, min, arith, ap, sym, ◌∙◌, subst, inl, inr}
+use Rattle.std.proofs.Common.{◌≡◌, refl, ℕ, zero, suc, ◌+◌, ◌-◌, ◌*◌, ◌^◌, ◌≤◌, ◌<◌, ℤ, pos, negsuc, neg_ℤ, Bool, true, false, Option, Some, None, cond, unsigned_abs, lt-ltb, leb, ltb, leb-true, eqb, eq-eqb, ◌&&◌, List, length, take, drop, min, arith, ap, sym, ◌∙◌, subst, inl, inr}
 use Rattle.std.proofs.Math.Nat.{pow-le-pow_right, mul-lt-mul_of_pos_right}
 use Rattle.std.proofs.lemmas.Nat.{pow-add}
 use Rattle.std.proofs.lemmas.Grind.{pow_more}
-use Rattle.std.proofs.lemmas.Bool.{cases_lt}
+use Rattle.std.proofs.lemmas.Bool.{cases_lt, and_parts, and_from}
 use Rattle.dfx_value.specs.Parse.{signed, if_fits, if_below}
 use Rattle.dfx_value.specs.Decimal.{at_scale}
 use Rattle.dfx_value.specs.Number.{Number}
+use Rattle.std.specs.Char.{is_ascii_digit}
+use Rattle.dfx_value.specs.Parse.{is_empty, dec_parts}
+use Rattle.dfx_value.specs.Digits.{digits, all_zeros}
+use Rattle.dfx_value.specs.Kinds.{is_of}
+use Rattle.dfx_value.specs.declared.kind.Kind.TheVariants as kind
+use Rattle.dfx_value.specs.declared.value.Value.TheVariants as value
+use Rattle.dfx_value.proofs.FieldLemmas.{parts_is}
 use Rattle.dfx_value.proofs.DecimalLemmas.{ten_positive}
 use Rattle.dfx_value.proofs.ParseLemmas.{digits_stop_at, digits_more_at, digits_end_at}
 
@@ -53,6 +60,23 @@ raised_fits n w f s h = elim (cases_lt f s) [
 
 pub below_precision : (p s : ℕ) (minus : Bool) (n k : ℕ) → n < 10 ^ k → k ≤ p → if_below p s minus n ≡ Some (at_scale (signed minus n) s)
 below_precision p s minus n k h l = ap (λ b. cond b (Some (at_scale (signed minus n) s)) None) (lt-ltb n (10 ^ p) (omega (arith, ten_up k p l)))
+
+pub digit_low : (b : ℕ) → is_ascii_digit b ≡ true → b - 48 ≤ 9
+digit_low b h =
+    let both = and_parts (leb 48 b) (leb b 57) h in
+    omega (arith, leb-true b 57 both.1)
+
+-- a decimal of up to 18 digits
+pub decimal_is : (p s : ℕ) (minus : Bool) (w f : List ℕ) (a b : ℕ) → p ≤ 38 → (is_empty w && is_empty f) ≡ false → all_zeros (drop s f) ≡ true
+    → Some a ≡ digits 0 w → Some b ≡ digits a (take s f) → b * 10 ^ (s - length f) < 10 ^ (length w + s) → length w + s ≤ p
+    → dec_parts p s minus w f ≡ Some (at_scale (signed minus (b * 10 ^ (s - length f))) s)
+decimal_is p s minus w f a b h some zeros da db low few =
+    parts_is p s minus w f h
+    ∙ rw (some, zeros, ← da, ← db) (below_precision p s minus (b * 10 ^ (s - length f)) (length w + s) low few)
+
+pub decimal_fits : (p s : ℕ) (minus : Bool) (m k : ℕ) → m < 10 ^ k → k ≤ p → is_of (kind.Dec p s) (value.Dec (at_scale (signed minus m) s)) ≡ true
+decimal_fits p s minus m k h l =
+    and_from (eqb s s) (ltb (unsigned_abs (signed minus m)) (10 ^ p)) (eq-eqb s s refl) (rw (abs_signed minus m) (lt-ltb m (10 ^ p) (omega (arith, ten_up k p l))))
 
 pub ruleset digit_steps = (digits_stop_at, digits_more_at, digits_end_at, digit_more, short_below)
 

@@ -1,6 +1,7 @@
 //! Decimals of up to 18 digits, read in 64 bits.
 
-ghost use Rattle.std.specs.Prelude.{◌≡◌, ◌+◌, ◌-◌, ◌*◌, ◌^◌, ◌<◌, ◌≤◌, IfSome, Some, true, length, take, drop};
+ghost use Rattle.std.specs.Prelude.{◌≡◌, ◌&&◌, ◌+◌, ◌-◌, ◌*◌, ◌^◌, ◌<◌, ◌≤◌, IfSome, Some, true, length, take, drop};
+ghost use Rattle.dfx_value.specs.Decimal.{at_scale};
 ghost use Rattle.dfx_value.specs.Kinds.{is_of};
 ghost use Rattle.dfx_value.specs.Digits.{all_zeros};
 ghost use Rattle.dfx_value.specs.Parse as spec;
@@ -63,9 +64,28 @@ fn raised(number: u64, missing: usize, digits: usize) -> u64
     number * 10u64.pow(missing as u32)
 }
 
+/// Whether both parts are empty.
+fn have_no_digit(whole: &[u8], fraction: &[u8]) -> bool
+    ensures { result ≡ (spec.is_empty whole.now && spec.is_empty fraction.now) }
+{
+    whole.is_empty() && fraction.is_empty()
+}
+
+/// A number below 10^18 with a sign as a decimal.
+fn decimal_of(negative: bool, magnitude: u64, scale: u8) -> Decimal
+    requires magnitude { magnitude < 10 ^ 18 }
+    requires scale { scale ≤ 38 }
+    ensures { result ≡ at_scale (spec.signed negative magnitude) scale }
+{
+    Decimal {
+        unscaled: i128::from(signed(negative, magnitude)),
+        scale,
+    }
+}
+
 /// The digits before and behind a point, of which those past the scale are zeros, where no more than the precision's
 /// stand before it.
-#[tactic(auto, using(dfx_value::proofs::FieldLemmas::parts_is, crate::proofs::NumberSteps::raised_fits, crate::proofs::NumberSteps::below_precision, crate::proofs::NumberSteps::abs_signed))]
+#[tactic(auto, using(dfx_value::proofs::FieldLemmas::parts_is))]
 pub fn short_decimal(
     negative: bool,
     whole: &[u8],
@@ -79,18 +99,16 @@ pub fn short_decimal(
     ensures value { result ≡ spec.dec_parts precision scale negative whole.now fraction.now }
     ensures fits { IfSome result (λ d. is_of (kind.Dec precision scale) (value.Dec d) ≡ true) }
 {
-    if whole.is_empty() && fraction.is_empty() {
+    if have_no_digit(whole, fraction) {
         return None;
     }
     let (kept, past) = cut(fraction, scale as usize);
     if !all_zeros(past) {
         return None;
     }
-    let number = short_digits(short_digits(0, 0, whole)?, whole.len(), kept)?;
+    let before = short_digits(0, 0, whole)?;
+    let number = short_digits(before, whole.len(), kept)?;
     let missing = missing_digits(scale, fraction.len());
     let magnitude = raised(number, missing, whole.len() + scale as usize);
-    Some(Decimal {
-        unscaled: i128::from(signed(negative, magnitude)),
-        scale,
-    })
+    Some(decimal_of(negative, magnitude, scale))
 }

@@ -34,34 +34,51 @@ fn push_refused(text: &mut String, refused: CsvRefused) -> Result<(), Fail> {
     Ok(())
 }
 
-/// The rows of a file in batches of so many, each batch with a slash after it, and why there are no more.
-fn shown(
-    alloc: Global,
-    source: MemSource,
-    kinds: &[Kind],
+/// Puts the next batch with a slash after it, or why there is none; whether more may come.
+fn push_next(
+    text: &mut String,
+    scan: &mut CsvScan<MemSource>,
     rows: u32,
-) -> Result<String, Fail> {
+    columns: u32,
+) -> Result<bool, Fail> {
+    match scan.next(rows) {
+        Ok(batch) => {
+            push_rows(text, &batch, columns)?;
+            text.push('/')?;
+            Ok(batch.rows() == rows)
+        }
+        Err(refused) => {
+            push_refused(text, refused)?;
+            Ok(false)
+        }
+    }
+}
+
+/// Puts all batches.
+fn push_batches(
+    text: &mut String,
+    scan: &mut CsvScan<MemSource>,
+    rows: u32,
+    columns: u32,
+) -> Result<(), Fail> {
+    for _at in 0..u64::MAX {
+        if !push_next(text, scan, rows, columns)? {
+            return Ok(());
+        }
+    }
+    Ok(())
+}
+
+/// The rows of a file in batches of so many, each batch with a slash after it, and why there are no more.
+fn shown(alloc: Global, source: MemSource, kinds: &[Kind], rows: u32) -> Result<String, Fail> {
     let mut text = String::new(alloc);
     let columns = kinds.len() as u32;
     let Ok(mut scan) = CsvScan::new(alloc, source, Vec::from_slice(alloc, kinds)?) else {
         return Ok(text);
     };
-    for _at in 0..u64::MAX {
-        match scan.next(rows) {
-            Ok(batch) => {
-                push_rows(&mut text, &batch, columns)?;
-                text.push('/')?;
-                if batch.rows() < rows {
-                    break;
-                }
-            }
-            Err(refused) => {
-                push_refused(&mut text, refused)?;
-                break;
-            }
-        }
-    }
+    let taken = push_batches(&mut text, &mut scan, rows, columns);
     let _ = scan.into_source();
+    taken?;
     Ok(text)
 }
 
