@@ -55,7 +55,8 @@ fn raised(number: u64, missing: usize, digits: usize) -> u64
     requires number { number * 10 ^ missing < 10 ^ digits }
     requires short { digits ≤ 18 }
     requires missing { missing ≤ digits }
-    ensures { result ≡ number * 10 ^ missing }
+    ensures value { result ≡ number * 10 ^ missing }
+    ensures below { result < 10 ^ digits }
 {
     let _ = digits;
     if missing == 0 {
