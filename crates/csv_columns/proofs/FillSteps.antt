@@ -1,7 +1,7 @@
 -- Columns that the fields of records fill.
 use Rattle.std.proofs.Common.{◌≡◌, ◌≢◌, refl, ℕ, zero, suc, ◌+◌, ◌<◌, ◌≤◌, ◌^◌, Bool, true, false, ◌==◌, cond, eq-eqb, ne_eqb, List, [], ◌∷◌, ◌++◌, length, get_or, set, take, drop, drop-cons, add-one, map, Result, Ok, Err, All, ap, sym, ◌∙◌, arith, append_assoc}
-use Rattle.std.proofs.lemmas.List.{take_all, drop_all, append-nil, length-map}
-use Rattle.std.proofs.Math.Seq.{take-suc-set, drop-suc-set}
+use Rattle.std.proofs.lemmas.List.{take_all, drop_all, append-nil, length-map, take_more_set, get_or-drop}
+use Rattle.std.proofs.Math.Seq.{drop-set-lt}
 use Rattle.dfx_value.specs.Checked.{◌>>=◌}
 use Rattle.dfx_value.specs.declared.value.Value.{Value}
 use Rattle.value_columns.specs.Columns.{KindedValues, with_value}
@@ -39,8 +39,23 @@ fields_more n c i old now fs new d e l m same h =
     rw (drop-cons old i d l, drop-cons fs i e m, add-one i)
     (fields_cons n c (get_or old i d) (drop (suc i) old) (get_or fs i e) (drop (suc i) fs)
     ∙ ap (λ (r : Result KindedValues CsvRefused). r >>= λ y. with_fields n (c + 1) (drop (suc i) old) (drop (suc i) fs) >>= λ ys. Ok (y ∷ ys)) h) in
-    let front : take (i + 1) (set now i new) ≡ take i now ++ new ∷ [] = ? in
+    let front : take (i + 1) (set now i new) ≡ take i now ++ new ∷ [] = take_more_set now i new (omega arith) in
     rw (front, put) (behind_more (take i now) new (with_fields n (c + 1) (drop (i + 1) old) (drop (i + 1) fs)))
+
+drop_next : (i : ℕ) (xs : List KindedValues) → drop (suc i) xs ≡ drop 1 (drop i xs)
+drop_next zero xs = refl
+drop_next (suc i) [] = refl
+drop_next (suc i) (x ∷ xs) = drop_next i xs
+
+-- the columns that are left are as they were
+pub rest_more : (i : ℕ) (old now : List KindedValues) (new : KindedValues) → drop i now ≡ drop i old → drop (i + 1) (set now i new) ≡ drop (i + 1) old
+rest_more i old now new h =
+    drop-set-lt (i + 1) now i new (omega arith) ∙ rw add-one (drop_next i now ∙ ap (drop 1) h ∙ sym (drop_next i old))
+
+pub column_at : (i : ℕ) (old now : List KindedValues) (d : KindedValues) → drop i now ≡ drop i old → get_or now i d ≡ get_or old i d
+column_at i old now d h =
+    let same : i ≡ i + 0 = omega arith in
+    ap (λ (k : ℕ). get_or now k d) same ∙ sym (get_or-drop i now 0 d) ∙ ap (λ (xs : List KindedValues). get_or xs 0 d) h ∙ get_or-drop i old 0 d ∙ ap (λ (k : ℕ). get_or old k d) (sym same)
 
 pub field_refused : (n c i : ℕ) (old : List KindedValues) (fs : List (List ℕ)) (front : List KindedValues) (whole : Result (List KindedValues) CsvRefused) (d : KindedValues) (e : List ℕ) (f : CsvRefused)
     → i < length old → i < length fs → with_field n c (get_or old i d) (get_or fs i e) ≡ Err f
@@ -76,7 +91,7 @@ record_other n cs fs h =
 pub even_long : (n : ℕ) (cs : List KindedValues) → Even n cs → All (λ c. n ≤ length c.values) cs
 even_long n cs h = λ k d l. omega (arith, h k d l)
 
-pub ruleset fill_steps = (fields_more, field_refused, fields_end, record_same, record_other)
+pub ruleset fill_steps = (rest_more, fields_more, field_refused, fields_end, record_same, record_other)
 
 pub ruleset even_steps = (even_long)
 
