@@ -1,13 +1,13 @@
 -- The items of records, one by one.
-use Rattle.std.proofs.Common.{◌≡◌, refl, ℕ, zero, suc, add-one, Bool, false, ◌==◌, cond, eqb-true, drop, ◌+◌, ◌^◌, ◌≤◌, ◌<◌, true, List, [], ◌∷◌, ◌++◌, length, map, Option, Some, None, option_map, Result, Ok, Err, ap, sym, ◌∙◌, arith, length-append}
+use Rattle.std.proofs.Common.{◌≡◌, refl, rules, IfOk, ℕ, zero, suc, add-one, Bool, false, ◌==◌, cond, eqb-true, drop, ◌+◌, ◌^◌, ◌≤◌, ◌<◌, true, List, [], ◌∷◌, ◌++◌, length, map, Option, Some, None, option_map, Result, Ok, Err, ap, sym, ◌∙◌, arith, length-append}
 use Rattle.std.proofs.Math.Seq.{take-append_seam, drop-append_seam}
 use Rattle.std.proofs.lemmas.List.{take_all, drop_all, append-nil, length-map}
 use Rattle.dfx_value.specs.declared.kind.Kind.{Kind}
 use Rattle.dfx_value.specs.declared.value.Value.{Value as Cell}
 use Rattle.value_columns.specs.Columns.{KindedValues}
 use Rattle.column_batch.specs.Batches.{kinds_of, rows_from, row_at}
-use Rattle.column_batch.specs.Parts.{all_with}
-use Rattle.column_batch.proofs.BuilderLemmas.{kinds-all_with, rows-before, row_at-last, fills-pushed}
+use Rattle.column_batch.specs.Parts.{all_with, empties}
+use Rattle.column_batch.proofs.BuilderLemmas.{kinds-all_with, rows-before, row_at-last, fills-pushed, fills-empties}
 use Rattle.dfx_value.specs.Checked.{◌>>=◌}
 use Rattle.csv_columns.specs.Filled.{with_record, Even}
 use Rattle.csv_source.specs.declared.refused.CsvRefused.{CsvRefused}
@@ -17,6 +17,7 @@ use Rattle.csv_records.specs.Left.{Ahead, Fields, Takes, HasNone, records_left, 
 use Rattle.csv_source.specs.Scans.{rows_then}
 use Rattle.csv_source.specs.ScanView.{GivesRows, IsRefused}
 use Rattle.csv_columns.specs.Left.{items_left}
+use Rattle.csv_columns.specs.declared.reading.Given.{Given}
 
 same_items : (xs ys : List Item) → Some xs ≡ Some ys → xs ≡ ys
 same_items xs ys e = (cc)
@@ -148,6 +149,27 @@ record_refused n old fields e o now items t h is = items_refused o now (kinds_of
   go : (r : Item) → (r >>= λ row. Ok (all_with old row)) ≡ Err e → r ≡ Err e
   go (Ok row) m = cc
   go (Err x) m = (let same : x ≡ e = (cc) in ap Err same)
+
+-- ---- a batch that is given
+
+pub given_gives : (r : Result Given CsvRefused) (count : ℕ) (items : List Item) (rows : List (List Cell)) (ended : Bool) (later : Option (List Item))
+    → IfOk r (λ given. given.batch.rows ≡ rows) → IfOk r (λ given. given.ended ≡ ended) → GivesRows count items rows (cond ended (Some []) later)
+    → IfOk r (λ given. GivesRows count items given.batch.rows (cond given.ended (Some []) later))
+given_gives (Ok given) count items rows ended later a b h = rw (a, b) h
+given_gives (Err e) count items rows ended later a b h = search rules
+
+pub given_falls : (r : Result Given CsvRefused) (rows : List (List Cell)) (ended : Bool) (left most : ℕ)
+    → IfOk r (λ given. given.batch.rows ≡ rows) → IfOk r (λ given. given.ended ≡ ended) → length rows + cond ended 0 left ≤ most
+    → IfOk r (λ given. length given.batch.rows + cond given.ended 0 left ≤ most)
+given_falls (Ok given) rows ended left most a b h = rw (a, b) h
+given_falls (Err e) rows ended left most a b h = search rules
+
+pub rows_none : (o : Option (List Item)) → option_map (rows_then []) o ≡ o
+rows_none None = refl
+rows_none (Some items) = refl
+
+pub even_none : (kinds : List Kind) → Even 0 (empties kinds)
+even_none kinds = (fills-empties kinds).even refl
 
 pub ruleset row_steps = (kinds_put, even_put, rows_put, record_refused, items_none)
 
