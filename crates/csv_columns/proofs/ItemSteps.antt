@@ -79,12 +79,12 @@ length_cells n c (k ∷ ks) [] vs l h = absurd (omega arith)
 length_cells n c (k ∷ ks) (f ∷ fs) vs l h =
     go (field_value n c k f) (cells_from n (c + 1) ks fs) (λ bs e. length_cells n (c + 1) ks fs bs (omega arith) e) refl h
   where
-  go : (v : Result Cell CsvRefused) (r : Item) → ((bs : List Cell) → cells_from n (c + 1) ks fs ≡ Ok bs → length bs ≡ length ks) → cells_from n (c + 1) ks fs ≡ r → (v >>= λ a. r >>= λ b. Ok (a ∷ b)) ≡ Ok vs → length vs ≡ suc (length ks)
-  go (Ok v) (Ok bs) rest e m =
-      let is : v ∷ bs ≡ vs = (cc) in
-      sym (ap length is) ∙ ap suc (rest bs e)
-  go (Ok v) (Err x) rest e m = cc
-  go (Err x) r rest e m = cc
+    go : (v : Result Cell CsvRefused) (r : Item) → ((bs : List Cell) → cells_from n (c + 1) ks fs ≡ Ok bs → length bs ≡ length ks) → cells_from n (c + 1) ks fs ≡ r → (v >>= λ a. r >>= λ b. Ok (a ∷ b)) ≡ Ok vs → length vs ≡ suc (length ks)
+    go (Ok v) (Ok bs) rest e m =
+        let is : v ∷ bs ≡ vs = (cc) in
+        sym (ap length is) ∙ ap suc (rest bs e)
+    go (Ok v) (Err x) rest e m = cc
+    go (Err x) r rest e m = cc
 
 length_row : (n : ℕ) (ks : List Kind) (fs : Fields) (row : List Cell) → record_item ks n fs ≡ Ok row → length row ≡ length ks
 length_row n ks fs row h = go (length fs == length ks) refl h where
@@ -140,7 +140,7 @@ rows_put (Some v) before after n m k old new fields t h even next = go (records_
   go (r ∷ rs) now t =
       let put = put_of n old new fields h in
       let rows : rows_from new 0 (k + 1) ≡ rows_from old 0 k ++ put.row ∷ [] =
-          ap (λ (cs : List KindedValues). rows_from cs 0 (k + 1)) put.filled ∙ rows_more k old put.row even put.long in
+      ap (λ (cs : List KindedValues). rows_from cs 0 (k + 1)) put.filled ∙ rows_more k old put.row even put.long in
       rw (t.1, t.0, put.item, rows, next) (ap Some (moved (rows_from old 0 k) put.row (items_from (kinds_of old) (n + 1) rs)))
 
 pub record_refused : (n : ℕ) (old : List KindedValues) (fields : Fields) (e : CsvRefused) (o now : Option (List Fields)) (items : List Item)

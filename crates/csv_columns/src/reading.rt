@@ -36,10 +36,7 @@ pub struct Given {
 }
 
 /// Takes the next record, if there is one.
-pub fn next_record<S: Source>(
-    source: &mut S,
-    reader: &mut RecordReader,
-) -> Result<bool, CsvRefused>
+pub fn next_record<S: Source>(source: &mut S, reader: &mut RecordReader) -> Result<bool, CsvRefused>
     ensures some { result ≡ Ok true
         → Takes (records_left (S.told source.old) reader.old)
         reader.new.fields (records_left (S.told source.old) reader.new) }

@@ -96,8 +96,13 @@ impl<S: Source> CsvScan<S> {
             Progress::Unread => begin(self.alloc, &mut self.source, &self.kinds)?,
             begun => begun,
         };
-        let Advanced { batch, progress } =
-            advance(self.alloc, &mut self.source, &self.kinds, progress, rows)?;
+        let Advanced { batch, progress } = advance(
+            self.alloc,
+            &mut self.source,
+            &self.kinds,
+            progress,
+            rows,
+        )?;
         self.progress = progress;
         Ok(batch)
     }

@@ -88,15 +88,19 @@ fn source_of(alloc: Global, bytes: &[u8], failing: &[u32]) -> Result<MemSource, 
 }
 
 const INT: [Kind; 1] = [Kind::Int];
+
 const DEC: [Kind; 1] = [Kind::Dec {
     precision: 12,
     scale: 2,
 }];
+
 const WIDE: [Kind; 1] = [Kind::Dec {
     precision: 38,
     scale: 3,
 }];
+
 const BOOL: [Kind; 1] = [Kind::Bool];
+
 const TEXT: [Kind; 1] = [Kind::Text];
 
 #[test]
@@ -105,27 +109,51 @@ fn cells(rt: HostRuntime) -> Result<(), Fail> {
     let cases: [(&[Kind], &[u8], &str); 19] = [
         (&INT, b"a\n1\n-2\n+3\n\"\"\n007\n", "1|;-2|;3|;|;7|;/"),
         (&INT, b"a\n999999999999999999\n", "999999999999999999|;/"),
-        (&INT, b"a\n9223372036854775807\n-9223372036854775808\n", "9223372036854775807|;-9223372036854775808|;/"),
+        (
+            &INT,
+            b"a\n9223372036854775807\n-9223372036854775808\n",
+            "9223372036854775807|;-9223372036854775808|;/",
+        ),
         (&INT, b"a\n0000000000000000000000000012\n", "12|;/"),
         (&INT, b"a\n9223372036854775808\n", "!value 1 1"),
         (&INT, b"a\n1\n-\n", "!value 2 1"),
         (&INT, b"a\n1x\n", "!value 1 1"),
         (&INT, b"a\n1\n\xff\n", "!utf8 2"),
-        (&DEC, b"a\n1\n-2.5\n.25\n3.\n+0.00\n7.1000\n", "1.00|;-2.50|;0.25|;3.00|;0.00|;7.10|;/"),
+        (
+            &DEC,
+            b"a\n1\n-2.5\n.25\n3.\n+0.00\n7.1000\n",
+            "1.00|;-2.50|;0.25|;3.00|;0.00|;7.10|;/",
+        ),
         (&DEC, b"a\n9999999999.99\n", "9999999999.99|;/"),
         (&DEC, b"a\n00000000000009999999999.99\n", "9999999999.99|;/"),
         (&DEC, b"a\n10000000000\n", "!value 1 1"),
         (&DEC, b"a\n1.001\n", "!value 1 1"),
         (&DEC, b"a\n.\n", "!value 1 1"),
-        (&WIDE, b"a\n12345678901234567890123456789012345.678\n1.5\n", "12345678901234567890123456789012345.678|;1.500|;/"),
-        (&BOOL, b"a\ntrue\nFALSE\n\"\"\nTrue\n", "true|;false|;|;true|;/"),
+        (
+            &WIDE,
+            b"a\n12345678901234567890123456789012345.678\n1.5\n",
+            "12345678901234567890123456789012345.678|;1.500|;/",
+        ),
+        (
+            &BOOL,
+            b"a\ntrue\nFALSE\n\"\"\nTrue\n",
+            "true|;false|;|;true|;/",
+        ),
         (&BOOL, b"a\nyes\n", "!value 1 1"),
-        (&TEXT, b"a\n\"x,y\"\n\"a\"\"b\"\nh\xc3\xa9\n\"\"\n", "x,y|;a\"b|;h\u{e9}|;|;/"),
+        (
+            &TEXT,
+            b"a\n\"x,y\"\n\"a\"\"b\"\nh\xc3\xa9\n\"\"\n",
+            "x,y|;a\"b|;h\u{e9}|;|;/",
+        ),
         (&TEXT, b"a\n\xc3\n", "!utf8 1"),
     ];
     for (at, (kinds, file, rows)) in cases.iter().enumerate() {
         let source = source_of(alloc, file, &[])?;
-        assert_eq!(rt; shown(alloc, source, kinds, 100)?.as_str(), *rows, "in case {at}");
+        assert_eq!(rt;
+            shown(alloc, source, kinds, 100)?.as_str(),
+            *rows,
+            "in case {at}"
+        );
     }
     Ok(())
 }
@@ -142,11 +170,19 @@ fn batches(rt: HostRuntime) -> Result<(), Fail> {
         (b"a,b\n1,x\n2,y\n", 2, "1|x|;2|y|;//"),
         (b"a,b\n1,x\n2\n3,z\n", 2, "!fields 2"),
         (b"a,b\n1,x\n2\n3,z\n", 1, "1|x|;/!fields 2"),
-        (b"\xef\xbb\xbfa,b\r\n1,x\r\n\r\n2,\"y\r\n\"\r\n", 5, "1|x|;2|y\r\n|;/"),
+        (
+            b"\xef\xbb\xbfa,b\r\n1,x\r\n\r\n2,\"y\r\n\"\r\n",
+            5,
+            "1|x|;2|y\r\n|;/",
+        ),
     ];
     for (at, (file, rows, wanted)) in cases.iter().enumerate() {
         let source = source_of(alloc, file, &[])?;
-        assert_eq!(rt; shown(alloc, source, &kinds, *rows)?.as_str(), *wanted, "in case {at}");
+        assert_eq!(rt;
+            shown(alloc, source, &kinds, *rows)?.as_str(),
+            *wanted,
+            "in case {at}"
+        );
     }
     Ok(())
 }

@@ -10,6 +10,6 @@ returns-in-Ok-clause-even g c _ =
 pub returns-in-Ok-clause-takes : goal.returns-in-Ok-clause-takes
 returns-in-Ok-clause-takes g c _ =
     let taken : Takes (records_left (g.S.Source.told c.args.source.now) c.args.reading.now.reader) c.next_record.new.reader.fields (records_left (g.S.Source.told c.args.source.now) c.next_record.new.reader) =
-        c.next_record.ensures.some (search rules) in
+    c.next_record.ensures.some (search rules) in
     rows_put (g.S.Source.told c.args.source.now) c.args.reading.now.reader c.next_record.new.reader c.args.reading.now.number (c.args.reading.now.number + 1) c.args.rows
     c.args.columns.now.items c.push_record.new.columns.items c.next_record.new.reader.fields taken c.in-Ok.ensures.ok c.requires.even refl

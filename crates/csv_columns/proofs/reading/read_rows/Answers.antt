@@ -39,11 +39,11 @@ returns-in-Ok-false-clause-gives g c items is =
     let stands : c.push_next.new.columns.items ≡ c.loop-at.columns.items = c.push_next.ensures.stands (search rules) in
     let rows : rows_from c.push_next.new.columns.items 0 c.loop-at.at ≡ rows_from c.loop-at.columns.items 0 c.loop-at.at = ap (λ (cs : List KindedValues). rows_from cs 0 c.loop-at.at) stands in
     let short : GivesRows c.args.rows items (rows_from c.loop-at.columns.items 0 c.loop-at.at) (Some []) =
-        gives_short c.args.rows items (rows_from c.loop-at.columns.items 0 c.loop-at.at)
-        (items_left (g.S.Source.told c.args.source.now) c.args.kinds.now c.loop-at.reading.number c.loop-at.reading.reader)
-        (items_left (g.S.Source.told c.args.source.now) c.args.kinds.now c.args.reading.now.number c.args.reading.now.reader)
-        (λ xs known. c.push_next.ensures.none (search rules) xs (rw (c.loop-at.invariant.told, c.loop-at.invariant.kinds) known))
-        c.loop-at.invariant.whole is (omega (arith, length-rows_from c.loop-at.columns.items 0 c.loop-at.at)) in
+    gives_short c.args.rows items (rows_from c.loop-at.columns.items 0 c.loop-at.at)
+    (items_left (g.S.Source.told c.args.source.now) c.args.kinds.now c.loop-at.reading.number c.loop-at.reading.reader)
+    (items_left (g.S.Source.told c.args.source.now) c.args.kinds.now c.args.reading.now.number c.args.reading.now.reader)
+    (λ xs known. c.push_next.ensures.none (search rules) xs (rw (c.loop-at.invariant.told, c.loop-at.invariant.kinds) known))
+    c.loop-at.invariant.whole is (omega (arith, length-rows_from c.loop-at.columns.items 0 c.loop-at.at)) in
     given_gives c.batch_given.result c.args.rows items (rows_from c.push_next.new.columns.items 0 c.loop-at.at) true
     (items_left (g.S.Source.told c.args.source.now) c.args.kinds.now c.push_next.new.reading.number c.push_next.new.reading.reader)
     c.batch_given.ensures.rows c.batch_given.ensures.ended
@@ -60,11 +60,11 @@ pub returns-clause-gives : goal.returns-clause-gives
 returns-clause-gives g c items is =
     let all : c.loop-at.at ≡ c.args.rows = omega (arith, c.loop-at.auto.at-end) in
     let full : GivesRows c.args.rows items (rows_from c.loop-at.columns.items 0 c.loop-at.at)
-        (items_left (g.S.Source.told c.args.source.now) c.args.kinds.now c.loop-at.reading.number c.loop-at.reading.reader) =
-        gives_full c.args.rows items (rows_from c.loop-at.columns.items 0 c.loop-at.at)
-        (items_left (g.S.Source.told c.args.source.now) c.args.kinds.now c.loop-at.reading.number c.loop-at.reading.reader)
-        (items_left (g.S.Source.told c.args.source.now) c.args.kinds.now c.args.reading.now.number c.args.reading.now.reader)
-        c.loop-at.invariant.whole is (length-rows_from c.loop-at.columns.items 0 c.loop-at.at ∙ all) in
+    (items_left (g.S.Source.told c.args.source.now) c.args.kinds.now c.loop-at.reading.number c.loop-at.reading.reader) =
+    gives_full c.args.rows items (rows_from c.loop-at.columns.items 0 c.loop-at.at)
+    (items_left (g.S.Source.told c.args.source.now) c.args.kinds.now c.loop-at.reading.number c.loop-at.reading.reader)
+    (items_left (g.S.Source.told c.args.source.now) c.args.kinds.now c.args.reading.now.number c.args.reading.now.reader)
+    c.loop-at.invariant.whole is (length-rows_from c.loop-at.columns.items 0 c.loop-at.at ∙ all) in
     given_gives c.batch_given-2.result c.args.rows items (rows_from c.loop-at.columns.items 0 c.args.rows) false
     (items_left (g.S.Source.told c.args.source.now) c.args.kinds.now c.loop-at.reading.number c.loop-at.reading.reader)
     c.batch_given-2.ensures.rows c.batch_given-2.ensures.ended
