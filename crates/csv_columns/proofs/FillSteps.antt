@@ -1,11 +1,11 @@
 -- Columns that the fields of records fill.
-use Rattle.std.proofs.Common.{◌≡◌, ◌≢◌, refl, ℕ, zero, suc, ◌+◌, ◌<◌, ◌≤◌, ◌^◌, Bool, true, false, ◌==◌, cond, eq-eqb, ne_eqb, List, [], ◌∷◌, ◌++◌, length, get_or, set, take, drop, drop-cons, add-one, map, Result, Ok, Err, All, ap, sym, ◌∙◌, arith, append_assoc}
+use Rattle.std.proofs.Common.{◌≡◌, ◌≢◌, refl, ℕ, zero, suc, ◌+◌, ◌<◌, ◌≤◌, true, false, ◌==◌, eq-eqb, ne_eqb, List, [], ◌∷◌, ◌++◌, length, get_or, set, take, drop, drop-cons, add-one, Result, Ok, Err, All, ap, sym, ◌∙◌, arith, append_assoc}
 use Rattle.std.proofs.lemmas.List.{take_all, drop_all, append-nil, length-map, take_more_set, get_or-drop}
 use Rattle.std.proofs.Math.Seq.{drop-set-lt}
 use Rattle.dfx_value.specs.Checked.{◌>>=◌}
 use Rattle.dfx_value.specs.declared.value.Value.{Value}
 use Rattle.value_columns.specs.Columns.{KindedValues, with_value}
-use Rattle.column_batch.specs.Batches.{kinds_of, rows_from}
+use Rattle.column_batch.specs.Batches.{kinds_of}
 use Rattle.column_batch.specs.Parts.{all_with}
 use Rattle.column_batch.proofs.BuilderLemmas.{kinds-empties}
 use Rattle.csv_source.specs.declared.refused.CsvRefused.{CsvRefused}

@@ -1,5 +1,5 @@
 -- The items of records, one by one.
-use Rattle.std.proofs.Common.{◌≡◌, refl, rules, IfOk, ℕ, zero, suc, add-one, Bool, false, ◌==◌, cond, eqb-true, drop, ◌+◌, ◌^◌, ◌≤◌, ◌<◌, true, List, [], ◌∷◌, ◌++◌, length, map, Option, Some, None, option_map, Result, Ok, Err, ap, sym, ◌∙◌, arith, length-append}
+use Rattle.std.proofs.Common.{◌≡◌, refl, rules, IfOk, ℕ, zero, suc, add-one, Bool, false, ◌==◌, cond, eqb-true, drop, ◌+◌, ◌≤◌, ◌<◌, true, List, [], ◌∷◌, ◌++◌, length, map, Option, Some, None, option_map, Result, Ok, Err, ap, sym, ◌∙◌, arith}
 use Rattle.std.proofs.Math.Seq.{take-append_seam, drop-append_seam}
 use Rattle.std.proofs.lemmas.List.{take_all, drop_all, append-nil, length-map}
 use Rattle.dfx_value.specs.declared.kind.Kind.{Kind}

@@ -1,12 +1,11 @@
 -- Numbers of up to 18 digits.
-use Rattle.std.proofs.Common.{◌≡◌, refl, ℕ, zero, suc, ◌+◌, ◌-◌, ◌*◌, ◌^◌, ◌≤◌, ◌<◌, ℤ, pos, negsuc, neg_ℤ, Bool, true, false, Option, Some, None, cond, unsigned_abs, lt-ltb, leb, ltb, leb-true, eqb, eq-eqb, ◌&&◌, List, length, take, drop, min, arith, ap, sym, ◌∙◌, subst, inl, inr}
+use Rattle.std.proofs.Common.{◌≡◌, refl, ℕ, zero, suc, ◌+◌, ◌-◌, ◌*◌, ◌^◌, ◌≤◌, ◌<◌, pos, negsuc, Bool, true, false, Some, None, cond, unsigned_abs, lt-ltb, leb, ltb, leb-true, eqb, eq-eqb, ◌&&◌, List, length, take, drop, min, arith, ap, sym, ◌∙◌, subst, inl, inr}
 use Rattle.std.proofs.Math.Nat.{pow-le-pow_right, mul-lt-mul_of_pos_right}
 use Rattle.std.proofs.lemmas.Nat.{pow-add}
 use Rattle.std.proofs.lemmas.Grind.{pow_more}
 use Rattle.std.proofs.lemmas.Bool.{cases_lt, and_parts, and_from}
 use Rattle.dfx_value.specs.Parse.{signed, if_fits, if_below}
 use Rattle.dfx_value.specs.Decimal.{at_scale}
-use Rattle.dfx_value.specs.Number.{Number}
 use Rattle.std.specs.Char.{is_ascii_digit}
 use Rattle.dfx_value.specs.Parse.{is_empty, dec_parts}
 use Rattle.dfx_value.specs.Digits.{digits, all_zeros}

@@ -1,8 +1,7 @@
 -- Words: columns that the fields of records fill.
-use Rattle.std.specs.Prelude.{ℕ, ◌≡◌, ◌++◌, Bool, true, false, Option, None, List, Result, Ok, Err, option_map, length, All, if◌then◌else◌}
+use Rattle.std.specs.Prelude.{ℕ, ◌≡◌, ◌++◌, Option, List, Result, Ok, option_map, length, All}
 use Rattle.dfx_value.specs.Checked.{◌>>=◌}
-use Rattle.dfx_value.specs.Digits.{digits}
-use Rattle.dfx_value.specs.Parse.{parsed, is_empty, int_from}
+use Rattle.dfx_value.specs.Parse.{parsed}
 use Rattle.value_columns.specs.Columns.{KindedValues, with_value}
 use Rattle.column_batch.specs.Batches.{kinds_of}
 use Rattle.column_batch.specs.Parts.{all_with}

@@ -77,17 +77,22 @@ fn push_next<S: Source>(
         → reading.new.number + most_left (S.size source.old) reading.new.reader < 2 ^ 64 }
     ensures falls { result ≡ Ok true → most_left (S.size source.old) reading.new.reader
         < most_left (S.size source.old) reading.old.reader }
-    ensures takes { result ≡ Ok true → option_map (rows_then (rows_from columns.new.items 0 (rows + 1)))
-        (items_left (S.told source.old) (kinds_of columns.old.items) reading.new.number reading.new.reader)
+    ensures takes { result ≡ Ok true
+        → option_map (rows_then (rows_from columns.new.items 0 (rows + 1)))
+        (items_left (S.told source.old) (kinds_of columns.old.items)
+        reading.new.number reading.new.reader)
         ≡ option_map (rows_then (rows_from columns.old.items 0 rows))
-        (items_left (S.told source.old) (kinds_of columns.old.items) reading.old.number reading.old.reader) }
+        (items_left (S.told source.old) (kinds_of columns.old.items)
+        reading.old.number reading.old.reader) }
 
     ensures stands { result ≡ Ok false → columns.new.items ≡ columns.old.items }
     ensures none { result ≡ Ok false → (items : List Item)
-        → items_left (S.told source.old) (kinds_of columns.old.items) reading.old.number reading.old.reader ≡ Some items
+        → items_left (S.told source.old) (kinds_of columns.old.items)
+        reading.old.number reading.old.reader ≡ Some items
         → items ≡ [] }
     ensures refused { (items : List Item) (e : Refusal)
-        → items_left (S.told source.old) (kinds_of columns.old.items) reading.old.number reading.old.reader ≡ Some items
+        → items_left (S.told source.old) (kinds_of columns.old.items)
+        reading.old.number reading.old.reader ≡ Some items
         → result ≡ Err e → is_bad e ≡ true → items ≡ Err e ∷ [] }
     ensures read { result ≡ Err refused.Read → Rose (S.faults source.old) (S.faults source.new) }
     ensures same { (S.told source.new ≡ S.told source.old)
@@ -125,14 +130,16 @@ pub fn read_rows<S: Source>(
     ensures counts { IfOk result (λ given. given.ended ≡ false
         → reading.new.number + most_left (S.size source.old) reading.new.reader < 2 ^ 64) }
     ensures gives { (items : List Item)
-        → items_left (S.told source.old) kinds.now reading.old.number reading.old.reader ≡ Some items
+        → items_left (S.told source.old) kinds.now
+        reading.old.number reading.old.reader ≡ Some items
         → IfOk result (λ given. GivesRows rows items given.batch.rows (if given.ended then Some []
         else items_left (S.told source.old) kinds.now reading.new.number reading.new.reader)) }
     ensures falls { IfOk result (λ given. length given.batch.rows
         + (if given.ended then 0 else most_left (S.size source.old) reading.new.reader)
         ≤ most_left (S.size source.old) reading.old.reader) }
     ensures refused { (items : List Item) (e : Refusal)
-        → items_left (S.told source.old) kinds.now reading.old.number reading.old.reader ≡ Some items
+        → items_left (S.told source.old) kinds.now
+        reading.old.number reading.old.reader ≡ Some items
         → result ≡ Err e → is_bad e ≡ true → IsRefused rows items e }
     ensures read { result ≡ Err refused.Read → Rose (S.faults source.old) (S.faults source.new) }
     ensures same { (S.told source.new ≡ S.told source.old)

@@ -42,7 +42,8 @@ impl<S: Source> Model for CsvScan<S> {
       refused = is_refused s.progress;
     } };
 
-    ghost invariant = { λ s. (are_kinds s.kinds.items ≡ true) × (length s.kinds.items < 2 ^ 32) × IsSound (S.size s.source) s.progress };
+    ghost invariant = { λ s. (are_kinds s.kinds.items ≡ true) × (length s.kinds.items < 2 ^ 32)
+        × IsSound (S.size s.source) s.progress };
 }
 
 impl<S: Source> CsvScan<S> {

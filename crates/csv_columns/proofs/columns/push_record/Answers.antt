@@ -1,4 +1,4 @@
-use Rattle.std.proofs.Common.{◌≡◌, ◌+◌, ◌<◌, ◌∙◌, ℕ, List, length, get_or, arith, sym, subst, ap}
+use Rattle.std.proofs.Common.{◌≡◌, ◌+◌, ◌<◌, ◌∙◌, length, get_or, arith, sym, subst}
 use Rattle.value_columns.specs.Columns.{KindedValues}
 use Rattle.csv_columns.proofs.FillSteps.{column_at}
 use Rattle.csv_columns.proofs.columns.push_record.Goals as goal

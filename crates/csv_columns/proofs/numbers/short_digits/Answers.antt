@@ -1,4 +1,4 @@
-use Rattle.std.proofs.Common.{ℕ, ◌*◌, ◌+◌, ◌-◌, ◌≤◌, ◌<◌, ◌^◌, ◌≡◌, ◌∙◌, length, get_or, drop, arith, sym, rules, true, ap, subst}
+use Rattle.std.proofs.Common.{ℕ, ◌*◌, ◌+◌, ◌<◌, ◌^◌, ◌≡◌, ◌∙◌, get_or, arith, sym, true, subst}
 use Rattle.std.specs.Char.{is_ascii_digit}
 use Rattle.csv_columns.proofs.NumberSteps.{digit_more, short_below, digit_low}
 use Rattle.dfx_value.proofs.ParseLemmas.{digits_more_at}

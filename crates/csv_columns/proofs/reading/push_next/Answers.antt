@@ -1,4 +1,4 @@
-use Rattle.std.proofs.Common.{◌≡◌, ◌+◌, Ok, true, refl, rules}
+use Rattle.std.proofs.Common.{◌+◌, refl, rules}
 use Rattle.csv_records.specs.Left.{records_left, Takes}
 use Rattle.csv_columns.proofs.ItemSteps.{even_put, rows_put}
 use Rattle.csv_columns.proofs.reading.push_next.Goals as goal

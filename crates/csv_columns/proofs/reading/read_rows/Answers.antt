@@ -1,11 +1,10 @@
-use Rattle.std.proofs.Common.{◌≡◌, ◌+◌, ◌<◌, ◌≤◌, ◌∙◌, ◌∷◌, [], ℕ, List, Ok, Err, Some, true, false, refl, rules, arith, sym, ap, subst, length}
+use Rattle.std.proofs.Common.{◌≡◌, ◌∙◌, [], ℕ, List, Err, Some, true, false, refl, rules, arith, sym, ap, subst}
 use Rattle.dfx_value.specs.declared.value.Value.{Value as Cell}
 use Rattle.value_columns.specs.Columns.{KindedValues}
 use Rattle.column_batch.specs.Batches.{kinds_of, rows_from}
 use Rattle.column_batch.proofs.BatchLemmas.{length-rows_from}
 use Rattle.column_batch.proofs.BuilderLemmas.{kinds-empties}
 use Rattle.csv_records.specs.Left.{most_left}
-use Rattle.csv_source.specs.CsvItems.{Item}
 use Rattle.csv_source.specs.ScanView.{GivesRows}
 use Rattle.csv_columns.specs.Filled.{Even}
 use Rattle.csv_columns.specs.Left.{items_left}
