@@ -1,0 +1,4 @@
+pub mod NumberSteps
+pub mod FillSteps
+pub mod ItemSteps
+pub mod OpenSteps

@@ -1,0 +1,4 @@
+pub mod Filled
+pub mod Left
+pub mod Progress
+pub mod ScanView
