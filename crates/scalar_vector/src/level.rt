@@ -53,7 +53,7 @@ fn weave(alloc: Global, marks: &[bool], taken: &Part, rest: &Part) -> Result<Par
 
 /// The rows of an arm, where the unmarked ones have this part.
 fn join(alloc: Global, level: &Level, rest: Part) -> Result<Part, NoMemory>
-    ensures { IfOk result (λ p. front_of p ≡ spec.joined (level_of level.now) (front_of rest.entry)) }
+    ensures { IfOk result (λ p. front_of p ≡ spec.joined (level_of level.now) (front_of rest)) }
 {
     let woven = weave(alloc, &level.marks, &level.taken, &rest)?;
     Ok(Part {
@@ -64,7 +64,7 @@ fn join(alloc: Global, level: &Level, rest: Part) -> Result<Part, NoMemory>
 
 /// The rows of all arms, where those that no arm took have this part.
 pub fn rebuild(alloc: Global, levels: Vec<Level>, rest: Part) -> Result<Part, NoMemory>
-    ensures { IfOk result (λ p. front_of p ≡ spec.rebuilt (map level_of levels.entry.items) (front_of rest.entry)) }
+    ensures { IfOk result (λ p. front_of p ≡ spec.rebuilt (map level_of levels.items) (front_of rest)) }
 {
     let mut levels = levels;
     let mut rest = rest;

@@ -45,8 +45,9 @@ fn apply(alloc: Global, function: Unary, value: &Value) -> Result<Value, EvalRef
 fn apply_cell(alloc: Global, function: Unary, cell: Cell<'_>) -> Result<Value, EvalRefused>
     ensures { Gives result (applied function (value_of cell.entry)) }
 {
+    let is_null = is_null_cell(&cell);
     match function {
-        Unary::IsNull => Ok(Value::Bool(is_null_cell(&cell))),
+        Unary::IsNull => Ok(Value::Bool(is_null)),
         _ => {
             let value = own(alloc, cell)?;
             apply(alloc, function, &value)
