@@ -1,11 +1,11 @@
 -- Steps of the loops over whole numbers.
-use Rattle.std.proofs.Common.{◌≡◌, ℕ, ℤ, pos, ◌+◌, ◌≤◌, ◌<◌, min, Bool, true, false, refl, zero, suc, Some, None, List, [], ◌∷◌, ◌++◌, Ok, Err, map, take, drop, length, get_or, ap, sym, ◌∙◌, arith}
-use Rattle.std.proofs.lemmas.List.{get_or-map, map-append, take-map, take_min}
+use Rattle.std.proofs.Common.{◌≡◌, ℕ, ℤ, pos, ◌+◌, ◌-◌, ◌≤◌, ◌<◌, min, Bool, true, false, refl, zero, suc, Some, None, List, [], ◌∷◌, ◌++◌, Ok, Err, map, take, drop, length, get_or, ap, sym, ◌∙◌, arith}
+use Rattle.std.proofs.lemmas.List.{get_or-map, map-append, take-map, take_min, take_all}
 use Rattle.std.proofs.Math.ListN.{length-map}
 use Rattle.dfx_value.specs.declared.value.Value.{Value}
 use Rattle.dfx_value.specs.declared.value.Value.TheVariants as value
 use Rattle.dfx_value.specs.declared.fault.EvalFault.{EvalFault}
-use Rattle.std.specs.Prelude.{replicate}
+use Rattle.std.specs.Prelude.{replicate, slice_range}
 use Rattle.value_columns.specs.Columns.{or_null}
 use Rattle.value_columns.specs.Masked.{masked}
 use Rattle.scalar_exprs.specs.Truth.{is_true}
@@ -67,3 +67,11 @@ all_true (false ∷ bs) = ap (λ (cs : List Bool). false ∷ cs) (all_true bs)
 pub unmasked : (ns : List ℤ) → map (or_null value.Int) (masked ns []) ≡ ints ns
 unmasked [] = refl
 unmasked (n ∷ ns) = ap (λ (vs : List Value). value.Int n ∷ vs) (unmasked ns)
+
+-- the whole of a column whose mask has no bit
+pub lane_of : (vs : List Value) (ns : List ℤ) (bits : List Bool) (to count k : ℕ) → map (or_null value.Int) (masked ns bits) ≡ slice_range vs 0 to
+    → to ≡ length vs → length bits ≡ 0 → k ≡ min count (length ns) → take count vs ≡ ints (take k ns)
+lane_of vs ns (b ∷ bits) to count k e all none least = absurd (omega arith)
+lane_of vs ns [] to count k e all none least =
+    let whole : vs ≡ ints ns = sym (take_all (to - 0) vs (omega arith)) ∙ sym e ∙ unmasked ns in
+    ap (take count) whole ∙ first_ints ns count ∙ ap (λ (m : ℕ). ints (take m ns)) (sym least)

@@ -19,7 +19,7 @@ fn operate_values(alloc: Global, op: Op, left: &Vector, right: &Vector) -> Resul
     let count = left.len().min(right.len());
     let mut values = Vec::with_capacity(alloc, count)?;
     for at in 0..count {
-        match operate_cells(alloc, op, left.get(at), right.get(at)) {
+        match operate_cells(alloc, op, &left.get(at), &right.get(at)) {
             Ok(value) => values.push(value)?,
             Err(refused) => return stopped(values, refused),
         }

@@ -1,6 +1,6 @@
 //! Operators on cells that are looked at where they stand.
 
-ghost use Rattle.std.specs.Prelude.{◌≡◌, true, Ok};
+ghost use Rattle.std.specs.Prelude.{◌≡◌, true, IfOk, Ok};
 ghost use Rattle.scalar_exprs.specs.Eval.{Gives};
 ghost use Rattle.scalar_exprs.specs.Functions as spec;
 ghost use Rattle.scalar_exprs.specs.Truth as truth;
@@ -8,8 +8,8 @@ ghost use Rattle.scalar_vector.specs.Lanes.{is_comparison};
 ghost use Rattle.value_columns.specs.Cells.{value_of};
 
 use crate::lanes::is_comparison_op;
-use column_batch::{Cell, compare, own};
-use dfx_value::{Op, Value};
+use column_batch::{Cell, compare};
+use dfx_value::{NoMemory, Op, Text, Value};
 use scalar_exprs::{EvalRefused, from_truth, operate};
 use std::alloc::Global;
 use std::cmp::Ordering;
@@ -57,19 +57,45 @@ fn compare_cells(op: Op, left: &Cell<'_>, right: &Cell<'_>) -> Value
     })
 }
 
+/// The value of a cell.
+pub fn copy_cell(alloc: Global, cell: &Cell<'_>) -> Result<Value, NoMemory>
+    ensures { IfOk result (λ value. value ≡ value_of cell.now) }
+{
+    Ok(match cell {
+        Cell::Null => Value::Null,
+        Cell::Bool(truth) => Value::Bool(*truth),
+        Cell::Int(number) => Value::Int(*number),
+        Cell::Dec(number) => Value::Dec(*number),
+        Cell::Text(text) => Value::Text(Text::from_string(String::from_str(alloc, text)?)),
+    })
+}
+
+/// An operator on copies of two cells.
+fn operate_copies(
+    alloc: Global,
+    op: Op,
+    left: &Cell<'_>,
+    right: &Cell<'_>,
+) -> Result<Value, EvalRefused>
+    ensures { Gives result (spec.operated op (value_of left.now) (value_of right.now)) }
+{
+    let left = copy_cell(alloc, left)?;
+    let right = copy_cell(alloc, right)?;
+    operate(alloc, op, &left, &right)
+}
+
 /// An operator on the values of two cells.
 pub fn operate_cells(
     alloc: Global,
     op: Op,
-    left: Cell<'_>,
-    right: Cell<'_>,
+    left: &Cell<'_>,
+    right: &Cell<'_>,
 ) -> Result<Value, EvalRefused>
-    ensures { Gives result (spec.operated op (value_of left.entry) (value_of right.entry)) }
+    ensures { Gives result (spec.operated op (value_of left.now) (value_of right.now)) }
 {
     if is_comparison_op(op) {
-        return Ok(compare_cells(op, &left, &right));
+        Ok(compare_cells(op, left, right))
+    } else {
+        operate_copies(alloc, op, left, right)
     }
-    let left = own(alloc, left)?;
-    let right = own(alloc, right)?;
-    operate(alloc, op, &left, &right)
 }

@@ -8,9 +8,9 @@ ghost use Rattle.scalar_vector.specs.Steps.{applied};
 ghost use Rattle.scalar_vector.specs.Vectors.{front_of, values_of};
 ghost use Rattle.value_columns.specs.Cells.{value_of};
 
-use crate::looks::is_null_cell;
+use crate::looks::{copy_cell, is_null_cell};
 use crate::vector::{Part, Vector, earlier, stopped};
-use column_batch::{Cell, own};
+use column_batch::Cell;
 use dfx_value::{Kind, NoMemory, Value};
 use scalar_exprs::{
     EvalRefused, absolute, cast, from_truth, is_null, length_of, negate, not_3, truth,
@@ -41,17 +41,21 @@ fn apply(alloc: Global, function: Unary, value: &Value) -> Result<Value, EvalRef
     }
 }
 
-/// A function on the value of a cell.
-fn apply_cell(alloc: Global, function: Unary, cell: Cell<'_>) -> Result<Value, EvalRefused>
-    ensures { Gives result (applied function (value_of cell.entry)) }
+/// A function on a copy of a cell.
+fn apply_copy(alloc: Global, function: Unary, cell: &Cell<'_>) -> Result<Value, EvalRefused>
+    ensures { Gives result (applied function (value_of cell.now)) }
 {
-    let is_null = is_null_cell(&cell);
+    let value = copy_cell(alloc, cell)?;
+    apply(alloc, function, &value)
+}
+
+/// A function on the value of a cell.
+fn apply_cell(alloc: Global, function: Unary, cell: &Cell<'_>) -> Result<Value, EvalRefused>
+    ensures { Gives result (applied function (value_of cell.now)) }
+{
     match function {
-        Unary::IsNull => Ok(Value::Bool(is_null)),
-        _ => {
-            let value = own(alloc, cell)?;
-            apply(alloc, function, &value)
-        }
+        Unary::IsNull => Ok(Value::Bool(is_null_cell(cell))),
+        _ => apply_copy(alloc, function, cell),
     }
 }
 
@@ -61,7 +65,7 @@ fn apply_all(alloc: Global, function: Unary, vector: &Vector) -> Result<Part, No
 {
     let mut values = Vec::with_capacity(alloc, vector.len())?;
     for at in 0..vector.len() {
-        match apply_cell(alloc, function, vector.get(at)) {
+        match apply_cell(alloc, function, &vector.get(at)) {
             Ok(value) => values.push(value)?,
             Err(refused) => return stopped(values, refused),
         }
