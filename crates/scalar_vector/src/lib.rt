@@ -2,6 +2,7 @@
 #![tactic(auto)]
 
 mod binary;
+mod columns;
 mod evaluate;
 mod lanes;
 mod law;
@@ -11,6 +12,7 @@ mod places;
 mod unary;
 mod vector;
 
+pub use columns::{Evaluated, eval_column};
 pub use evaluate::{Tests, eval_batch, eval_tests};
 pub use lanes::Lane;
 pub use law::front_law;
