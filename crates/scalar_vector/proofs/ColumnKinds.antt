@@ -1,5 +1,5 @@
 -- The values of an expression of a kind.
-use Rattle.std.proofs.Common.{◌≡◌, refl, ℕ, zero, suc, ◌≤◌, true, Some, List, [], ◌∷◌, Ok, Err, map, length, get_or, arith}
+use Rattle.std.proofs.Common.{◌≡◌, refl, ℕ, suc, ◌≤◌, true, Some, List, [], ◌∷◌, Ok, Err, length, get_or, arith}
 use Rattle.dfx_value.specs.Kinds.{is_of}
 use Rattle.dfx_value.specs.declared.value.Value.TheVariants as value
 use Rattle.value_columns.proofs.ColumnLemmas.{all_of-at}
@@ -14,7 +14,7 @@ use Rattle.scalar_exprs.specs.Kinds.{constants_fit, kind_of}
 use Rattle.scalar_exprs.proofs.KindLemmas.{kind_sound}
 use Rattle.scalar_exprs.proofs.ValueKinds.{Fits}
 use Rattle.value_columns.specs.Columns.{all_of}
-use Rattle.scalar_vector.specs.Fronts.{Front, before, front, evaluated}
+use Rattle.scalar_vector.specs.Fronts.{Front, before, evaluated}
 
 one-fits : (k : Kind) (o : Outcome) (f : Front) → Fits k o → all_of k f.values ≡ true → all_of k (before o f).values ≡ true
 one-fits k (Ok v) f here rest = both _ _ here rest

@@ -1,6 +1,6 @@
 -- An expression on rows, constructor by constructor, from its parts on the rows that they are asked for.
-use Rattle.std.proofs.Common.{◌≡◌, refl, ℕ, ◌+◌, ◌≤◌, ◌<◌, Bool, true, false, not, Option, Some, None, List, [], ◌∷◌, ◌++◌, Result, Ok, Err, map, take, drop, length, get_or, ap, sym, ◌∙◌, arith, unwrap_or, option_map}
-use Rattle.std.specs.Prelude.{if◌then◌else◌, slice_get, replicate}
+use Rattle.std.proofs.Common.{◌≡◌, refl, ℕ, ◌+◌, ◌≤◌, ◌<◌, Bool, true, false, not, Option, Some, None, List, [], ◌∷◌, ◌++◌, Result, Ok, Err, map, take, drop, length, get_or, ap, sym, ◌∙◌}
+use Rattle.std.specs.Prelude.{if◌then◌else◌, replicate}
 use Rattle.std.proofs.lemmas.List.{map-append}
 use Rattle.scalar_vector.proofs.Loops.{at-drop, drop-all}
 use Rattle.dfx_value.specs.Checked.{◌>>=◌}

@@ -14,7 +14,8 @@ use std::alloc::Global;
 
 /// An operator on pairs of values, as far as both vectors go.
 fn operate_values(alloc: Global, op: Op, left: &Vector, right: &Vector) -> Result<Part, NoMemory>
-    ensures { IfOk result (λ p. front_of p ≡ front (zipped (operated op) (values_of left.now) (values_of right.now))) }
+    ensures { IfOk result (λ p. front_of p
+        ≡ front (zipped (operated op) (values_of left.now) (values_of right.now))) }
 {
     let count = left.len().min(right.len());
     let mut values = Vec::with_capacity(alloc, count)?;
@@ -32,7 +33,8 @@ fn operate_values(alloc: Global, op: Op, left: &Vector, right: &Vector) -> Resul
 
 /// The same, side by side where the values are whole numbers.
 fn operate_all(alloc: Global, op: Op, left: &Vector, right: &Vector) -> Result<Part, NoMemory>
-    ensures { IfOk result (λ p. front_of p ≡ front (zipped (operated op) (values_of left.now) (values_of right.now))) }
+    ensures { IfOk result (λ p. front_of p
+        ≡ front (zipped (operated op) (values_of left.now) (values_of right.now))) }
 {
     if let (Some(ones), Some(others)) = (left.ints(), right.ints()) {
         if is_arithmetic_op(op) {
@@ -47,7 +49,8 @@ fn operate_all(alloc: Global, op: Op, left: &Vector, right: &Vector) -> Result<P
 
 /// An operator on two parts, of which the right one was asked for on the left one's rows alone.
 pub fn operate_parts(alloc: Global, op: Op, left: &Part, right: &Part) -> Result<Part, NoMemory>
-    ensures { IfOk result (λ p. front_of p ≡ paired (operated op) (front_of left.now) (front_of right.now)) }
+    ensures { IfOk result (λ p. front_of p
+        ≡ paired (operated op) (front_of left.now) (front_of right.now)) }
 {
     let made = operate_all(alloc, op, &left.vector, &right.vector)?;
     Ok(Part {

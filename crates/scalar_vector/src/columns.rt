@@ -66,7 +66,8 @@ pub fn eval_column(
     requires kind { kind_of batch.now.kinds expr.now ≡ Some kind }
     requires is { is_kind kind ≡ true }
     ensures kind { IfOk result (λ e. e.column.kind ≡ kind) }
-    ensures values { IfOk result (λ e. e.column.values ≡ (evaluated batch.now.rows expr.now).values) }
+    ensures values { IfOk result (λ e. e.column.values
+        ≡ (evaluated batch.now.rows expr.now).values) }
     ensures fault { IfOk result (λ e. e.fault ≡ (evaluated batch.now.rows expr.now).fault) }
 {
     let _ = batch.rows();

@@ -41,7 +41,8 @@ fn gather(
     places: Places<'_>,
 ) -> Result<Vec<Value>, NoMemory>
     requires column { column < length batch.now.kinds }
-    ensures { IfOk result (λ v. v.items ≡ map (λ p. cell (row_at batch.now.rows p) column) (places_of places.entry)) }
+    ensures { IfOk result (λ v. v.items
+        ≡ map (λ p. cell (row_at batch.now.rows p) column) (places_of places.entry)) }
 {
     let mut values = Vec::with_capacity(alloc, places.len())?;
     for at in 0..places.len() {
@@ -54,7 +55,8 @@ fn gather(
 #[tactic(auto, using(crate::proofs::Batches::shown_cells))]
 fn show(alloc: Global, batch: &Batch, column: u32, places: Places<'_>) -> Result<Vector, NoMemory>
     requires column { column < length batch.now.kinds }
-    ensures { IfOk result (λ v. values_of v ≡ map (λ p. cell (row_at batch.now.rows p) column) (places_of places.entry)) }
+    ensures { IfOk result (λ v. values_of v
+        ≡ map (λ p. cell (row_at batch.now.rows p) column) (places_of places.entry)) }
 {
     match places {
         Places::First(count) if count <= batch.rows() => {
@@ -74,7 +76,8 @@ fn column_values(
     places: Places<'_>,
 ) -> Result<Vector, NoMemory>
     requires { kinds.now ≡ batch.now.kinds }
-    ensures { IfOk result (λ v. values_of v ≡ map (λ p. cell (row_at batch.now.rows p) column) (places_of places.entry)) }
+    ensures { IfOk result (λ v. values_of v
+        ≡ map (λ p. cell (row_at batch.now.rows p) column) (places_of places.entry)) }
 {
     let _ = batch.rows();
     if (column as usize) < kinds.len() {
@@ -94,8 +97,11 @@ fn eval_present(
     places: Places<'_>,
 ) -> Result<(Level, Vec<u32>), NoMemory>
     requires { kinds.now ≡ batch.now.kinds }
-    ensures level { IfOk result (λ r. level_of r.0 ≡ part_level batch.now.rows (places_of places.entry) part.now) }
-    ensures left { IfOk result (λ r. r.1.items ≡ left_by (part_level batch.now.rows (places_of places.entry) part.now) (places_of places.entry)) }
+    ensures level { IfOk result (λ r. level_of r.0
+        ≡ part_level batch.now.rows (places_of places.entry) part.now) }
+    ensures left { IfOk result (λ r. r.1.items
+        ≡ left_by (part_level batch.now.rows (places_of places.entry) part.now)
+        (places_of places.entry)) }
 {
     let values = eval_part(alloc, part, kinds, batch, places)?;
     let marks = values.vector.present(alloc)?;
@@ -124,7 +130,8 @@ fn eval_arms(
     places: Places<'_>,
 ) -> Result<(Vec<Level>, Option<Vec<u32>>), NoMemory>
     requires { kinds.now ≡ batch.now.kinds }
-    ensures { IfOk result (λ r. Surrounds batch.now.rows (places_of places.entry) arms.now (map level_of r.0.items) (open_places (places_of places.entry) r.1)) }
+    ensures { IfOk result (λ r. Surrounds batch.now.rows (places_of places.entry) arms.now
+        (map level_of r.0.items) (open_places (places_of places.entry) r.1)) }
 {
     let mut levels = Vec::new(alloc);
     let mut left = None;
@@ -154,7 +161,8 @@ fn eval_coalesce(
     places: Places<'_>,
 ) -> Result<Part, NoMemory>
     requires { kinds.now ≡ batch.now.kinds }
-    ensures { IfOk result (λ p. front_of p ≡ evals batch.now.rows (places_of places.entry) (Coalesce parts.now)) }
+    ensures { IfOk result (λ p. front_of p
+        ≡ evals batch.now.rows (places_of places.entry) (Coalesce parts.now)) }
 {
     let mut levels = Vec::new(alloc);
     let mut left = None;
@@ -180,7 +188,8 @@ fn eval_part(
     places: Places<'_>,
 ) -> Result<Part, NoMemory>
     requires { kinds.now ≡ batch.now.kinds }
-    ensures { IfOk result (λ p. front_of p ≡ evals batch.now.rows (places_of places.entry) expr.now) }
+    ensures { IfOk result (λ p. front_of p
+        ≡ evals batch.now.rows (places_of places.entry) expr.now) }
 {
     match expr {
         Expr::Column(column) => Ok(Part {
@@ -235,7 +244,8 @@ fn eval_part(
     }
 }
 
-/// An expression on the rows of a batch: the values before the first row with a fault, and that fault.
+/// An expression on the rows of a batch: the values before the first row with a fault, and the
+/// fault.
 pub fn eval_batch(
     alloc: Global,
     expr: &Expr,
@@ -263,11 +273,13 @@ pub fn eval_tests(
     batch: &Batch,
 ) -> Result<Tests, NoMemory>
     requires { kinds.now ≡ batch.now.kinds }
-    ensures keep { IfOk result (λ t. t.keep.items ≡ map is_true (evaluated batch.now.rows expr.now).values) }
+    ensures keep { IfOk result (λ t. t.keep.items
+        ≡ map is_true (evaluated batch.now.rows expr.now).values) }
     ensures fault { IfOk result (λ t. t.fault ≡ (evaluated batch.now.rows expr.now).fault) }
 
     // Without a fault there is an answer for each row.
-    ensures whole { IfOk result (λ t. t.fault ≡ None → length t.keep.items ≡ length batch.now.rows) }
+    ensures whole { IfOk result (λ t. t.fault ≡ None
+        → length t.keep.items ≡ length batch.now.rows) }
 {
     let tests = eval_batch(alloc, expr, kinds, batch)?;
     Ok(Tests {

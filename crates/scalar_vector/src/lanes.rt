@@ -94,7 +94,8 @@ pub fn compute_ints(
 ) -> Result<Part, NoMemory>
     requires { is_arithmetic op ≡ true }
     ensures { IfOk result (λ p. front_of p
-        ≡ front (zipped (spec.operated op) (map value.Int (ints_of left.entry)) (map value.Int (ints_of right.entry)))) }
+        ≡ front (zipped (spec.operated op) (map value.Int (ints_of left.entry))
+        (map value.Int (ints_of right.entry)))) }
 {
     let count = left.len().min(right.len());
     let mut numbers = Vec::with_capacity(alloc, count)?;
@@ -123,7 +124,8 @@ pub fn compare_ints(
 ) -> Result<Part, NoMemory>
     requires { is_comparison op ≡ true }
     ensures { IfOk result (λ p. front_of p
-        ≡ front (zipped (spec.operated op) (map value.Int (ints_of left.entry)) (map value.Int (ints_of right.entry)))) }
+        ≡ front (zipped (spec.operated op) (map value.Int (ints_of left.entry))
+        (map value.Int (ints_of right.entry)))) }
 {
     let count = left.len().min(right.len());
     let mut truths = Vec::with_capacity(alloc, count)?;

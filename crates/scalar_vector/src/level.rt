@@ -8,7 +8,8 @@ use crate::vector::{Part, Vector, earlier};
 use dfx_value::{EvalFault, NoMemory};
 use std::alloc::Global;
 
-/// One arm: the marks of the rows that it was asked for, the fault of its test, and its results on the marked rows.
+/// One arm: the marks of the rows that it was asked for, the fault of its test, and its results on
+/// the marked rows.
 #[derive(Drop)]
 pub struct Level {
     pub marks: Vec<bool>,
@@ -19,7 +20,8 @@ pub struct Level {
 /// The values of marked rows and of the others in the rows' order, up to the first that is missing.
 fn weave(alloc: Global, marks: &[bool], taken: &Part, rest: &Part) -> Result<Part, NoMemory>
     ensures { IfOk result (λ p. front_of p
-        ≡ spec.woven marks.now (values_of taken.now.vector) taken.now.fault (values_of rest.now.vector) rest.now.fault) }
+        ≡ spec.woven marks.now (values_of taken.now.vector) taken.now.fault
+        (values_of rest.now.vector) rest.now.fault) }
 {
     let mut values = Vec::with_capacity(alloc, marks.len())?;
     let mut from_taken: usize = 0;
@@ -64,7 +66,8 @@ fn join(alloc: Global, level: &Level, rest: Part) -> Result<Part, NoMemory>
 
 /// The rows of all arms, where those that no arm took have this part.
 pub fn rebuild(alloc: Global, levels: Vec<Level>, rest: Part) -> Result<Part, NoMemory>
-    ensures { IfOk result (λ p. front_of p ≡ spec.rebuilt (map level_of levels.items) (front_of rest)) }
+    ensures { IfOk result (λ p. front_of p
+        ≡ spec.rebuilt (map level_of levels.items) (front_of rest)) }
 {
     let mut levels = levels;
     let mut rest = rest;

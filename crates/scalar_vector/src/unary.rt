@@ -61,7 +61,8 @@ fn apply_cell(alloc: Global, function: Unary, cell: &Cell<'_>) -> Result<Value, 
 
 /// A function on each value.
 fn apply_all(alloc: Global, function: Unary, vector: &Vector) -> Result<Part, NoMemory>
-    ensures { IfOk result (λ p. front_of p ≡ front (map (applied function) (values_of vector.now))) }
+    ensures { IfOk result (λ p. front_of p
+        ≡ front (map (applied function) (values_of vector.now))) }
 {
     let mut values = Vec::with_capacity(alloc, vector.len())?;
     for at in 0..vector.len() {
@@ -78,7 +79,8 @@ fn apply_all(alloc: Global, function: Unary, vector: &Vector) -> Result<Part, No
 
 /// A function on each value of a part, whose fault comes after them.
 pub fn apply_part(alloc: Global, function: Unary, part: &Part) -> Result<Part, NoMemory>
-    ensures { IfOk result (λ p. front_of p ≡ followed (front (map (applied function) (values_of part.now.vector))) part.now.fault) }
+    ensures { IfOk result (λ p. front_of p
+        ≡ followed (front (map (applied function) (values_of part.now.vector))) part.now.fault) }
 {
     let made = apply_all(alloc, function, &part.vector)?;
     Ok(Part {

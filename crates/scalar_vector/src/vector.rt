@@ -169,7 +169,8 @@ impl Vector {
     /// Which of them aren't NULL.
     #[tactic(auto, using(crate::proofs::Loops::map_steps))]
     pub fn present(&self, alloc: Global) -> Result<Vec<bool>, NoMemory>
-        ensures { IfOk result (λ marks. marks.items ≡ map (λ v. not (truth.is_null v)) (values_of self.now)) }
+        ensures { IfOk result (λ marks. marks.items
+            ≡ map (λ v. not (truth.is_null v)) (values_of self.now)) }
     {
         let mut marks = Vec::with_capacity(alloc, self.len())?;
         for at in 0..self.len() {

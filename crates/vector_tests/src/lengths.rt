@@ -1,4 +1,4 @@
-//! Each row as `eval` gives it: lengths about those at which words and blocks end, NULLs, faults in parts that are not taken.
+//! Each row as `eval` gives it: lengths about those at which words and blocks end, NULLs, faults.
 
 ghost use Rattle.std.specs.Prelude.{◌≡◌, ◌<◌, ◌^◌};
 
@@ -72,7 +72,12 @@ fn tried(alloc: Global, which: u32) -> Result<Expr, Fail> {
         10 => coalesce(alloc, second, Expr::Column(0)),
         11 => Ok(Expr::IsNull(Boxed::new(alloc, second)?)),
         12 => Ok(Expr::Length(Boxed::new(alloc, Expr::Column(2))?)),
-        13 => binary(alloc, Op::And, zero_test(alloc)?, binary(alloc, Op::Gt, second, number(8))?),
+        13 => binary(
+            alloc,
+            Op::And,
+            zero_test(alloc)?,
+            binary(alloc, Op::Gt, second, number(8))?,
+        ),
         14 => Ok(Expr::Neg(Boxed::new(alloc, second)?)),
         15 => Ok(Expr::Column(9)),
         _ => Ok(number(3)),
@@ -86,7 +91,10 @@ fn each_row_as_row_by_row(rt: HostRuntime) -> Result<(), Fail> {
         for which in 0..17 {
             let expr = tried(alloc, which)?;
             assert!(rt; agrees(alloc, &expr, rows, rows)?, "{which} on {rows} rows");
-            assert!(rt; agrees(alloc, &expr, rows, rows / 2)?, "{which} on {rows} rows with zeros");
+            assert!(rt;
+                agrees(alloc, &expr, rows, rows / 2)?,
+                "{which} on {rows} rows with zeros"
+            );
         }
     }
     Ok(())

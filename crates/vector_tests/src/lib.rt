@@ -1,4 +1,4 @@
-//! Tests of expressions over columns: each row as `eval` gives it, about the lengths at which words and blocks end.
+//! Tests of expressions over columns: each row is as `eval` gives it.
 #![tactic(auto)]
 
 #[cfg(test)]

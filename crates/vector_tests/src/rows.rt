@@ -69,21 +69,14 @@ pub fn number(number: i64) -> Expr {
 }
 
 pub fn binary(alloc: Global, op: Op, left: Expr, right: Expr) -> Result<Expr, Fail> {
-    Ok(Expr::Binary(
-        op,
-        Boxed::new(alloc, left)?,
-        Boxed::new(alloc, right)?,
-    ))
+    Ok(Expr::Binary(op, Boxed::new(alloc, left)?, Boxed::new(alloc, right)?))
 }
 
 /// CASE with one arm.
 pub fn case(alloc: Global, test: Expr, chosen: Expr, other: Expr) -> Result<Expr, Fail> {
     let mut arms = Vec::new(alloc);
     arms.push((test, chosen))?;
-    Ok(Expr::Case(
-        Items::from_vec(arms),
-        Boxed::new(alloc, other)?,
-    ))
+    Ok(Expr::Case(Items::from_vec(arms), Boxed::new(alloc, other)?))
 }
 
 /// COALESCE of two.

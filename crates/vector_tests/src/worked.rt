@@ -8,7 +8,7 @@ use crate::rows::{binary, case, int, number};
 use column_batch::{Batch, Builder, Cell};
 use dfx_value::{EvalFault, Kind, Row, Value};
 use scalar_exprs::{Expr, Op};
-use scalar_vector::eval_batch;
+use scalar_vector::{eval_batch, eval_column};
 use std::alloc::Global;
 use std::test::Fail;
 
@@ -60,5 +60,20 @@ fn a_ratio_up_to_the_zero(rt: HostRuntime) -> Result<(), Fail> {
     if part.vector.len() == 1 {
         assert!(rt; matches!(part.vector.get(0), Cell::Int(3)));
     }
+    Ok(())
+}
+
+#[test]
+fn a_column_of_a_sum(rt: HostRuntime) -> Result<(), Fail> {
+    let alloc = rt.alloc();
+    let batch = two(alloc)?;
+    let kinds = [Kind::Int, Kind::Int];
+    let expr = binary(alloc, Op::Add, Expr::Column(0), Expr::Column(1))?;
+    let sums = eval_column(alloc, &expr, Kind::Int, &kinds, &batch)?;
+    assert!(rt; sums.fault.is_none());
+    assert!(rt; matches!(sums.column.kind(), Kind::Int));
+    assert!(rt; sums.column.len() == 2);
+    assert!(rt; matches!(sums.column.cell(0), Cell::Int(8)));
+    assert!(rt; matches!(sums.column.cell(1), Cell::Int(6)));
     Ok(())
 }
