@@ -55,30 +55,69 @@ fn quotient(alloc: Global) -> Result<Expr, Fail> {
     binary(alloc, Op::Div, number(100), Expr::Column(0))
 }
 
+fn lengths(alloc: Global) -> Result<Expr, Fail> {
+    Ok(Expr::Length(Boxed::new(alloc, Expr::Column(2))?))
+}
+
+fn nulls(alloc: Global) -> Result<Expr, Fail> {
+    Ok(Expr::IsNull(Boxed::new(alloc, Expr::Column(1))?))
+}
+
+fn negated(alloc: Global) -> Result<Expr, Fail> {
+    Ok(Expr::Neg(Boxed::new(alloc, Expr::Column(1))?))
+}
+
+/// An operator between the second column and a number.
+fn with_number(alloc: Global, op: Op, other: i64) -> Result<Expr, Fail> {
+    binary(alloc, op, Expr::Column(1), number(other))
+}
+
+/// An operator between a column and itself.
+fn with_itself(alloc: Global, op: Op, column: u32) -> Result<Expr, Fail> {
+    binary(alloc, op, Expr::Column(column), Expr::Column(column))
+}
+
+fn ratio_where_it_is(alloc: Global) -> Result<Expr, Fail> {
+    let test = zero_test(alloc)?;
+    let chosen = quotient(alloc)?;
+    case(alloc, test, chosen, number(-1))
+}
+
+fn ratio_where_it_is_not(alloc: Global) -> Result<Expr, Fail> {
+    let test = zero_test(alloc)?;
+    let other = quotient(alloc)?;
+    case(alloc, test, number(5), other)
+}
+
+fn ratio_where_null(alloc: Global) -> Result<Expr, Fail> {
+    let second = quotient(alloc)?;
+    coalesce(alloc, Expr::Column(1), second)
+}
+
+fn two_tests(alloc: Global) -> Result<Expr, Fail> {
+    let left = zero_test(alloc)?;
+    let right = with_number(alloc, Op::Gt, 8)?;
+    binary(alloc, Op::And, left, right)
+}
+
 /// The n-th of the expressions that are tried.
 fn tried(alloc: Global, which: u32) -> Result<Expr, Fail> {
-    let second = Expr::Column(1);
     match which {
-        0 => binary(alloc, Op::Add, second, number(1)),
-        1 => binary(alloc, Op::Lt, second, number(40)),
-        2 => binary(alloc, Op::Mul, Expr::Column(0), Expr::Column(0)),
+        0 => with_number(alloc, Op::Add, 1),
+        1 => with_number(alloc, Op::Lt, 40),
+        2 => with_itself(alloc, Op::Mul, 0),
         3 => binary(alloc, Op::Ge, Expr::Column(0), number(7)),
-        4 => binary(alloc, Op::Eq, Expr::Column(2), Expr::Column(2)),
-        5 => binary(alloc, Op::Concat, Expr::Column(2), Expr::Column(2)),
+        4 => with_itself(alloc, Op::Eq, 2),
+        5 => with_itself(alloc, Op::Concat, 2),
         6 => quotient(alloc),
-        7 => case(alloc, zero_test(alloc)?, quotient(alloc)?, number(-1)),
-        8 => case(alloc, zero_test(alloc)?, number(5), quotient(alloc)?),
-        9 => coalesce(alloc, second, quotient(alloc)?),
-        10 => coalesce(alloc, second, Expr::Column(0)),
-        11 => Ok(Expr::IsNull(Boxed::new(alloc, second)?)),
-        12 => Ok(Expr::Length(Boxed::new(alloc, Expr::Column(2))?)),
-        13 => binary(
-            alloc,
-            Op::And,
-            zero_test(alloc)?,
-            binary(alloc, Op::Gt, second, number(8))?,
-        ),
-        14 => Ok(Expr::Neg(Boxed::new(alloc, second)?)),
+        7 => ratio_where_it_is(alloc),
+        8 => ratio_where_it_is_not(alloc),
+        9 => ratio_where_null(alloc),
+        10 => coalesce(alloc, Expr::Column(1), Expr::Column(0)),
+        11 => nulls(alloc),
+        12 => lengths(alloc),
+        13 => two_tests(alloc),
+        14 => negated(alloc),
         15 => Ok(Expr::Column(9)),
         _ => Ok(number(3)),
     }

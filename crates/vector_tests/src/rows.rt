@@ -3,6 +3,7 @@
 ghost use Rattle.std.specs.Prelude.{◌≡◌, ◌<◌, ◌^◌, [], ◌∷◌, length, true, IfOk};
 ghost use Rattle.dfx_value.specs.Kinds.{are_of, is_of};
 ghost use Rattle.dfx_value.specs.declared.kind.Kind.TheVariants as kind;
+ghost use Rattle.scalar_exprs.specs.declared.expr.Expr.TheVariants as expr;
 
 use column_batch::{Batch, Builder};
 use dfx_value::{Kind, Row, Text, Value};
@@ -68,7 +69,9 @@ pub fn number(number: i64) -> Expr {
     Expr::Const(Value::Int(number), Kind::Int)
 }
 
-pub fn binary(alloc: Global, op: Op, left: Expr, right: Expr) -> Result<Expr, Fail> {
+pub fn binary(alloc: Global, op: Op, left: Expr, right: Expr) -> Result<Expr, Fail>
+    ensures { IfOk result (λ e. e ≡ expr.Binary op left right) }
+{
     Ok(Expr::Binary(op, Boxed::new(alloc, left)?, Boxed::new(alloc, right)?))
 }
 

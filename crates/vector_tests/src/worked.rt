@@ -1,7 +1,8 @@
 //! The rows (6, 2) and (6, 0), worked by hand.
 
-ghost use Rattle.std.specs.Prelude.{◌≡◌, ◌∷◌, [], true, IfOk};
+ghost use Rattle.std.specs.Prelude.{◌≡◌, ◌∷◌, [], true, Some, IfOk};
 ghost use Rattle.dfx_value.specs.Kinds.{are_of};
+ghost use Rattle.scalar_exprs.specs.Kinds.{constants_fit, kind_of};
 ghost use Rattle.dfx_value.specs.declared.kind.Kind.TheVariants as kind;
 
 use crate::rows::{binary, case, int, number};
@@ -63,12 +64,20 @@ fn a_ratio_up_to_the_zero(rt: HostRuntime) -> Result<(), Fail> {
     Ok(())
 }
 
+#[tactic(auto, using(crate::proofs::SumKinds::sum_kind, crate::proofs::SumKinds::sum_fits))]
+fn sum(alloc: Global) -> Result<Expr, Fail>
+    ensures kind { IfOk result (λ e. kind_of (kind.Int ∷ kind.Int ∷ []) e ≡ Some kind.Int) }
+    ensures constants { IfOk result (λ e. constants_fit e ≡ true) }
+{
+    binary(alloc, Op::Add, Expr::Column(0), Expr::Column(1))
+}
+
 #[test]
 fn a_column_of_a_sum(rt: HostRuntime) -> Result<(), Fail> {
     let alloc = rt.alloc();
     let batch = two(alloc)?;
     let kinds = [Kind::Int, Kind::Int];
-    let expr = binary(alloc, Op::Add, Expr::Column(0), Expr::Column(1))?;
+    let expr = sum(alloc)?;
     let sums = eval_column(alloc, &expr, Kind::Int, &kinds, &batch)?;
     assert!(rt; sums.fault.is_none());
     assert!(rt; matches!(sums.column.kind(), Kind::Int));
