@@ -36,7 +36,10 @@ fn push_cell(
     requires row { at < length batch.now.rows }
     requires column { column < length batch.now.kinds }
     requires whole { partial_of record.old ≡ [] }
-    ensures fields { OnOk result (fields_of record.new ≡ fields_of record.old ++ map printed (picked (column ∷ []) (slice_index_or batch.now.rows at []))) }
+    ensures fields { OnOk result
+        (fields_of record.new
+        ≡ fields_of record.old ++ map printed
+        (picked (column ∷ []) (slice_index_or batch.now.rows at []))) }
     ensures whole { OnOk result (partial_of record.new ≡ []) }
 {
     scratch.clear();
@@ -55,7 +58,9 @@ pub fn set_record(
 ) -> Result<(), NoMemory>
     requires row { at < length batch.now.rows }
     requires columns { All (λ c. c < length batch.now.kinds) columns.now }
-    ensures { OnOk result (fields_of record.new ≡ map printed (picked columns.now (slice_index_or batch.now.rows at []))) }
+    ensures { OnOk result
+        (fields_of record.new
+        ≡ map printed (picked columns.now (slice_index_or batch.now.rows at []))) }
 {
     record.clear();
     for column in columns {

@@ -46,7 +46,8 @@ pub(crate) fn fresh(alloc: Global) -> Writer<Vec<u8>>
 
 /// The bytes that a writer wrote.
 pub(crate) fn finished(writer: Writer<Vec<u8>>) -> Result<Bytes, NoMemory>
-    ensures { (text : List ℕ) → Stands (λ v. Some v.items) writer text → IfOk result (λ bytes. bytes ≡ text) }
+    ensures { (text : List ℕ) → Stands (λ v. Some v.items) writer text
+        → IfOk result (λ bytes. bytes ≡ text) }
 {
     match writer.into_inner() {
         Ok(bytes) => Ok(Bytes::from_vec(bytes)),
