@@ -1,0 +1,14 @@
+pub mod Stepped
+pub mod Kept
+pub mod Claims
+pub mod Turning
+pub mod Owners
+pub mod Served
+pub mod Serves
+pub mod Takes
+pub mod Leaving
+pub mod Releases
+pub mod Finishes
+pub mod Grows
+pub mod Starts
+pub mod Tells

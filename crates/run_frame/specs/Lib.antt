@@ -1,0 +1,5 @@
+pub mod Running
+pub mod Answers
+pub mod Leaving
+pub mod Counts
+pub mod Turns
