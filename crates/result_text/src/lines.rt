@@ -4,7 +4,8 @@ ghost use Rattle.std.specs.Prelude.{◌≡◌, ◌++◌, ◌<◌, ℕ, List, [],
 ghost use Rattle.csv.specs.Records.{fields_of, partial_of};
 ghost use Rattle.csv.specs.Writing.{row_text, default_writer};
 ghost use Rattle.dfx_value.specs.Print.{printed};
-ghost use Rattle.result_text.specs.AnswerText.{picked, row_line};
+ghost use Rattle.result_text.specs.AnswerText.{row_line};
+ghost use Rattle.dfx_value.specs.Rows.{cells_at};
 ghost use Rattle.result_text.specs.Lines.{Stands};
 
 use csv::{ByteRecord, Writer};
@@ -39,7 +40,7 @@ fn push_cell(
     ensures fields { OnOk result
         (fields_of record.new
         ≡ fields_of record.old ++ map printed
-        (picked (column ∷ []) (slice_index_or batch.now.rows at []))) }
+        (cells_at (column ∷ []) (slice_index_or batch.now.rows at []))) }
     ensures whole { OnOk result (partial_of record.new ≡ []) }
 {
     scratch.clear();
@@ -60,7 +61,7 @@ pub fn set_record(
     requires columns { All (λ c. c < length batch.now.kinds) columns.now }
     ensures { OnOk result
         (fields_of record.new
-        ≡ map printed (picked columns.now (slice_index_or batch.now.rows at []))) }
+        ≡ map printed (cells_at columns.now (slice_index_or batch.now.rows at []))) }
 {
     record.clear();
     for column in columns {
