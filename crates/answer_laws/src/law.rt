@@ -60,5 +60,6 @@ pub fn meant_law()
         → (files : List ℕ) (n : ℕ) (q : AQuery) (p : Plan)
         → has_distincts tables q.body ≡ true → erased p ≡ erased (build q files n)
         → meaning_of tables p ≡ meaning (body_part tables q.body).kinds (body_part tables q.body).items }
-    ensures clean { (given : List Cells) (items : List Item) → Alike (of_rows given) items → faults items ≡ [] }
+    ensures clean { (given : List Cells) (items : List Item) → Alike (of_rows given) items
+        → faults items ≡ [] }
 {}

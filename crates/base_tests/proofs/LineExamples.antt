@@ -7,7 +7,8 @@ use Rattle.dfx_value.specs.Decimal.{at_scale}
 use Rattle.dfx_value.specs.Print.{decimal_text}
 use Rattle.dfx_value.specs.declared.value.Value.{Value as Cell}
 use Rattle.dfx_value.specs.declared.value.Value.TheVariants as value
-use Rattle.result_text.specs.AnswerText.{header_line, row_lines, picked}
+use Rattle.result_text.specs.AnswerText.{header_line, row_lines}
+use Rattle.dfx_value.specs.Rows.{cells_at}
 
 abbrev some_rows : List (List Cell)
 some_rows =
@@ -18,7 +19,7 @@ some_rows =
 
 -- some columns of rows
 abbrev lines : List ℕ → List (List Cell) → List ℕ
-lines columns rows = row_lines (map (picked columns) rows)
+lines columns rows = row_lines (map (cells_at columns) rows)
 
 -- ---- names
 

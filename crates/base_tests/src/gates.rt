@@ -10,7 +10,8 @@ use std::test::Fail;
 
 // A group of two channels with two senders each, for 8 tasks, and an empty queue of woken tasks.
 fn two_by_two(alloc: Global) -> Result<(Group<u32>, Woken), NoMemory>
-    ensures group { IfOk result (λ r. (length (r.0).gate.channels ≡ 2) × ((r.0).room ≡ 8) × ((r.0).gate.queue ≡ [])) }
+    ensures group { IfOk result
+        (λ r. (length (r.0).gate.channels ≡ 2) × ((r.0).room ≡ 8) × ((r.0).gate.queue ≡ [])) }
     ensures woken { IfOk result (λ r. ((r.1).room ≡ 8) × ((r.1).tasks ≡ [])) }
 {
     let group = Group::new(alloc, &[2, 2], 8)?;

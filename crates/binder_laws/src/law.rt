@@ -14,7 +14,8 @@ ghost use Rattle.planned_laws.specs.Wholly.{IsWhollyPlanned};
 /// The query that a script means over tables of any schemas has its columns in range, and a name for each column. So over every number
 /// of files and for every number of partitions its plan is finished with all columns in range.
 pub fn binder_law()
-    ensures ranges { (script : AScript) (schemas : List ASchema) (q : AQuery) → bound script schemas ≡ Ok q → QueryInRange q }
+    ensures ranges { (script : AScript) (schemas : List ASchema) (q : AQuery)
+        → bound script schemas ≡ Ok q → QueryInRange q }
     ensures names { (script : AScript) (schemas : List ASchema) (q : AQuery) → bound script schemas ≡ Ok q
         → length q.names ≡ body_width q.body }
     ensures planned { (script : AScript) (schemas : List ASchema) (q : AQuery) (files : List ℕ) (n : ℕ) → bound script schemas ≡ Ok q

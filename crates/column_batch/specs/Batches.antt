@@ -2,6 +2,7 @@
 use Rattle.std.specs.Prelude.{ℕ, zero, suc, Bool, List, [], ◌∷◌, map, slice_index_or, if◌then◌else◌}
 use Rattle.dfx_value.specs.KindedRows.{KindedRows}
 use Rattle.dfx_value.specs.Rows.{cell}
+pub use Rattle.dfx_value.specs.Rows.{cells_at}
 use Rattle.dfx_value.specs.declared.kind.Kind.{Kind}
 use Rattle.dfx_value.specs.declared.kind.Kind.TheVariants as kind
 use Rattle.dfx_value.specs.declared.value.Value.{Value}
@@ -33,10 +34,6 @@ abbrev pub kept : {A : Type 0} → List Bool → List A → List A
 kept [] xs = []
 kept (b ∷ bs) [] = []
 kept (b ∷ bs) (x ∷ xs) = if b then x ∷ kept bs xs else kept bs xs
-
--- the cells of a row at these columns, in the order in which they are named
-abbrev pub cells_at : List ℕ → List Value → List Value
-cells_at columns row = map (cell row) columns
 
 -- the kinds of these columns
 abbrev pub kinds_at : List Kind → List ℕ → List Kind

@@ -99,9 +99,12 @@ pub fn senders_law()
     ensures rows { (p : Shape) (u g n : ℕ) (number : Cells → ℕ) → ((row : Cells) → number row < n) → 0 < n → width p g ≡ n
         → ((c : ℕ) → has (task_at p u).targets c ≡ false → n ≤ c)
         → IsSender p u g (hash_split number n) (hash_deal number) }
-    ensures numbered { (number : Cells → ℕ) (n c : ℕ) → SendsOnly (is_at number c) c (hash_split number n) (hash_deal number) }
-    ensures batches_in_order { (to : ℕ → ℕ) (home : ℕ) → SendsInOrder (whole_split to) (home_deal home) }
-    ensures rows_in_order { (number : Cells → ℕ) (n : ℕ) → SendsInOrder (hash_split number n) (hash_deal number) }
+    ensures numbered { (number : Cells → ℕ) (n c : ℕ)
+        → SendsOnly (is_at number c) c (hash_split number n) (hash_deal number) }
+    ensures batches_in_order { (to : ℕ → ℕ) (home : ℕ)
+        → SendsInOrder (whole_split to) (home_deal home) }
+    ensures rows_in_order { (number : Cells → ℕ) (n : ℕ)
+        → SendsInOrder (hash_split number n) (hash_deal number) }
     ensures batches_have_rows { (to : ℕ → ℕ) → SendsRows (whole_split to) }
     ensures rows_have_rows { (number : Cells → ℕ) (n : ℕ) → SendsRows (hash_split number n) }
 {}
@@ -110,7 +113,8 @@ pub fn senders_law()
 /// (`passes`).
 pub fn bag_law()
     ensures permuted { (xs ys : List Item) → IsPermutation xs ys → SameBag xs ys }
-    ensures passes { (test : Item → Bool) (xs ys : List Item) → SameBag xs ys → AllPass test xs → AllPass test ys }
+    ensures passes { (test : Item → Bool) (xs ys : List Item) → SameBag xs ys → AllPass test xs
+        → AllPass test ys }
 {}
 
 /// Where no part that tasks sent, or were refused, is empty, no batch is that was taken from a channel (`took`), or

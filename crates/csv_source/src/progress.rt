@@ -50,9 +50,13 @@ pub struct Advanced<R: Drop> {
 #[tactic(auto, using(crate::proofs::OpenSteps::open_steps))]
 fn open<R: Read + Drop>(alloc: Global, kinds: &[Kind], bytes: R) -> Result<Progress<R>, CsvRefused>
     ensures begun { IfOk result (λ progress. is_begun progress ≡ true) }
-    ensures sound { (all : List ℕ) → R.remaining bytes ≡ Some all → length all + 2 < 2 ^ 64 → IfOk result (λ progress. IsSound R.remaining progress) }
-    ensures left { (all : List ℕ) → R.remaining bytes ≡ Some all → IfOk result (λ progress. left_of R.remaining None kinds.now progress ≡ Some (csv_items all kinds.now)) }
-    ensures refused { (all : List ℕ) (e : Refusal) → R.remaining bytes ≡ Some all → result ≡ Err e → is_bad e ≡ true → csv_items all kinds.now ≡ Err e ∷ [] }
+    ensures sound { (all : List ℕ) → R.remaining bytes ≡ Some all → length all + 2 < 2 ^ 64
+        → IfOk result (λ progress. IsSound R.remaining progress) }
+    ensures left { (all : List ℕ) → R.remaining bytes ≡ Some all
+        → IfOk result
+        (λ progress. left_of R.remaining None kinds.now progress ≡ Some (csv_items all kinds.now)) }
+    ensures refused { (all : List ℕ) (e : Refusal) → R.remaining bytes ≡ Some all → result ≡ Err e
+        → is_bad e ≡ true → csv_items all kinds.now ≡ Err e ∷ [] }
     ensures read { result ≢ Err refused.Read }
 {
     let mut reader = ReaderBuilder::new()
@@ -87,10 +91,17 @@ pub fn begin<S: Source>(
     kinds: &[Kind],
 ) -> Result<Progress<Cursor<Vec<u8>>>, CsvRefused>
     ensures begun { IfOk result (λ progress. is_begun progress ≡ true) }
-    ensures sound { IfOk result (λ progress. IsSound (cursor_remaining (λ v. Some v.items)) progress) }
-    ensures left { (all : List ℕ) → S.told source.old ≡ Some all → IfOk result (λ progress. left_of (cursor_remaining (λ v. Some v.items)) None kinds.now progress ≡ Some (csv_items all kinds.now)) }
-    ensures few { IfOk result (λ progress. left_count (left_of (cursor_remaining (λ v. Some v.items)) None kinds.now progress) ≤ 2 ^ 64) }
-    ensures refused { (all : List ℕ) (e : Refusal) → S.told source.old ≡ Some all → result ≡ Err e → is_bad e ≡ true → csv_items all kinds.now ≡ Err e ∷ [] }
+    ensures sound { IfOk result
+        (λ progress. IsSound (cursor_remaining (λ v. Some v.items)) progress) }
+    ensures left { (all : List ℕ) → S.told source.old ≡ Some all
+        → IfOk result
+        (λ progress. left_of (cursor_remaining (λ v. Some v.items)) None kinds.now progress
+        ≡ Some (csv_items all kinds.now)) }
+    ensures few { IfOk result
+        (λ progress. left_count
+        (left_of (cursor_remaining (λ v. Some v.items)) None kinds.now progress) ≤ 2 ^ 64) }
+    ensures refused { (all : List ℕ) (e : Refusal) → S.told source.old ≡ Some all → result ≡ Err e
+        → is_bad e ≡ true → csv_items all kinds.now ≡ Err e ∷ [] }
     ensures read { result ≡ Err refused.Read → Rose (S.faults source.old) (S.faults source.new) }
     ensures same { S.told source.new ≡ S.told source.old }
     ensures later { S.faults source.old ≤ S.faults source.new }
@@ -117,8 +128,11 @@ pub fn step<R: Read + Drop>(
     ensures fits { IfOk result (λ next. IfSome next.row (λ row. are_of kinds.now row ≡ true)) }
     ensures begun { IfOk result (λ next. is_begun next.progress ≡ true) }
     ensures sound { IfOk result (λ next. IsSound R.remaining next.progress) }
-    ensures gives { IfOk result (λ next. GivesRow (left_of R.remaining None kinds.now progress) next.row (left_of R.remaining None kinds.now next.progress)) }
-    ensures refused { (e : Refusal) → result ≡ Err e → is_bad e ≡ true → left_of R.remaining None kinds.now progress ≡ Some (Err e ∷ []) }
+    ensures gives { IfOk result
+        (λ next. GivesRow (left_of R.remaining None kinds.now progress) next.row
+        (left_of R.remaining None kinds.now next.progress)) }
+    ensures refused { (e : Refusal) → result ≡ Err e → is_bad e ≡ true
+        → left_of R.remaining None kinds.now progress ≡ Some (Err e ∷ []) }
     ensures read { result ≢ Err refused.Read }
 {
     match progress {
@@ -158,8 +172,13 @@ pub fn advance<R: Read + Drop>(
     ensures sound { IfOk result (λ next. IsSound R.remaining next.progress) }
     ensures gives { (items : List Item) → left_of R.remaining None kinds.now progress ≡ Some items
         → IfOk result (λ next. GivesRows rows items next.batch.rows (left_of R.remaining None kinds.now next.progress)) }
-    ensures falls { IfOk result (λ next. length next.batch.rows + left_count (left_of R.remaining None kinds.now next.progress) ≤ left_count (left_of R.remaining None kinds.now progress)) }
-    ensures refused { (items : List Item) (e : Refusal) → left_of R.remaining None kinds.now progress ≡ Some items → result ≡ Err e → is_bad e ≡ true → IsRefused rows items e }
+    ensures falls { IfOk result
+        (λ next. length next.batch.rows + left_count
+        (left_of R.remaining None kinds.now next.progress)
+        ≤ left_count (left_of R.remaining None kinds.now progress)) }
+    ensures refused { (items : List Item) (e : Refusal)
+        → left_of R.remaining None kinds.now progress ≡ Some items → result ≡ Err e
+        → is_bad e ≡ true → IsRefused rows items e }
     ensures read { result ≢ Err refused.Read }
 {
     match progress {

@@ -47,9 +47,16 @@ pub fn read_row<R: Read + Drop>(
 
     ensures fits { IfOk result (λ o. IfSome o (λ row. are_of kinds.now row ≡ true)) }
     ensures set { IfOk result (λ o. IfSome o (λ row. IsSet reading.new.reader)) }
-    ensures counts { IfOk result (λ o. IfSome o (λ row. Counts (records_left R.remaining reading.new.reader) reading.new.number)) }
-    ensures gives { IfOk result (λ row. GivesRow (items_left R.remaining kinds.now reading.old.number reading.old.reader) row (items_left R.remaining kinds.now reading.new.number reading.new.reader)) }
-    ensures refused { (e : Refusal) → result ≡ Err e → is_bad e ≡ true → items_left R.remaining kinds.now reading.old.number reading.old.reader ≡ Some (Err e ∷ []) }
+    ensures counts { IfOk result
+        (λ o. IfSome o
+        (λ row. Counts (records_left R.remaining reading.new.reader) reading.new.number)) }
+    ensures gives { IfOk result
+        (λ row. GivesRow
+        (items_left R.remaining kinds.now reading.old.number reading.old.reader) row
+        (items_left R.remaining kinds.now reading.new.number reading.new.reader)) }
+    ensures refused { (e : Refusal) → result ≡ Err e → is_bad e ≡ true
+        → items_left R.remaining kinds.now reading.old.number reading.old.reader
+        ≡ Some (Err e ∷ []) }
     ensures read { result ≢ Err refused.Read }
 {
     if !next_record(&mut reading.reader, &mut reading.record)? {
@@ -77,14 +84,18 @@ fn push_next<R: Read + Drop>(
 
     ensures kinds { builder.new.kinds ≡ builder.old.kinds }
     ensures set { result ≡ Ok true → IsSet reading.new.reader }
-    ensures counts { result ≡ Ok true → Counts (records_left R.remaining reading.new.reader) reading.new.number }
+    ensures counts { result ≡ Ok true
+        → Counts (records_left R.remaining reading.new.reader) reading.new.number }
     ensures more { result ≡ Ok true → length builder.new.rows ≡ length builder.old.rows + 1 }
     ensures takes { result ≡ Ok true → option_map (rows_then builder.new.rows) (items_left R.remaining kinds.now reading.new.number reading.new.reader)
         ≡ option_map (rows_then builder.old.rows) (items_left R.remaining kinds.now reading.old.number reading.old.reader) }
 
     ensures rows { result ≡ Ok false → builder.new.rows ≡ builder.old.rows }
-    ensures none { result ≡ Ok false → items_left R.remaining kinds.now reading.old.number reading.old.reader ≡ Some [] }
-    ensures refused { (e : Refusal) → result ≡ Err e → is_bad e ≡ true → items_left R.remaining kinds.now reading.old.number reading.old.reader ≡ Some (Err e ∷ []) }
+    ensures none { result ≡ Ok false
+        → items_left R.remaining kinds.now reading.old.number reading.old.reader ≡ Some [] }
+    ensures refused { (e : Refusal) → result ≡ Err e → is_bad e ≡ true
+        → items_left R.remaining kinds.now reading.old.number reading.old.reader
+        ≡ Some (Err e ∷ []) }
     ensures read { result ≢ Err refused.Read }
 {
     let Some(row) = read_row(alloc, kinds, reading)? else {
@@ -111,7 +122,9 @@ pub fn read_rows<R: Read + Drop>(
 
     ensures kinds { IfOk result (λ given. given.batch.kinds ≡ kinds.now) }
     ensures set { IfOk result (λ given. given.ended ≡ false → IsSet reading.new.reader) }
-    ensures counts { IfOk result (λ given. given.ended ≡ false → Counts (records_left R.remaining reading.new.reader) reading.new.number) }
+    ensures counts { IfOk result
+        (λ given. given.ended ≡ false
+        → Counts (records_left R.remaining reading.new.reader) reading.new.number) }
     ensures gives { (items : List Item) → items_left R.remaining kinds.now reading.old.number reading.old.reader ≡ Some items
         → IfOk result (λ given. GivesRows rows items given.batch.rows (if given.ended then Some [] else items_left R.remaining kinds.now reading.new.number reading.new.reader)) }
     ensures falls { IfOk result (λ given. length given.batch.rows + left_count (if given.ended then Some [] else items_left R.remaining kinds.now reading.new.number reading.new.reader)

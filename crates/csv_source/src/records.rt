@@ -14,8 +14,11 @@ pub fn next_record<R: Read>(
     reader: &mut Reader<R>,
     record: &mut ByteRecord,
 ) -> Result<bool, NoMemory>
-    ensures none { IsSet reader.old → result ≡ Ok false → HasNone (records_left R.remaining reader.old) }
-    ensures some { IsSet reader.old → result ≡ Ok true → Takes (records_left R.remaining reader.old) (fields_of record.new) (records_left R.remaining reader.new) }
+    ensures none { IsSet reader.old → result ≡ Ok false
+        → HasNone (records_left R.remaining reader.old) }
+    ensures some { IsSet reader.old → result ≡ Ok true
+        → Takes (records_left R.remaining reader.old) (fields_of record.new)
+        (records_left R.remaining reader.new) }
     ensures set { IsSet reader.old → result ≡ Ok true → IsSet reader.new }
 {
     let Ok(found) = reader.read_byte_record(record) else {

@@ -54,7 +54,9 @@ impl<S: Source> CsvScan<S> {
 
         ensures source { IfOk result (λ scan. scan.source ≡ source) }
         ensures kinds { IfOk result (λ scan. scan.kinds ≡ kinds.items) }
-        ensures left { IfOk result (λ scan. scan.left ≡ option_map (λ bytes. csv_items bytes kinds.items) (S.told source)) }
+        ensures left { IfOk result
+            (λ scan. scan.left
+            ≡ option_map (λ bytes. csv_items bytes kinds.items) (S.told source)) }
         ensures going { IfOk result (λ scan. scan.refused ≡ false) }
         ensures err { IfErr result (λ same. same ≡ source) }
     {
@@ -73,16 +75,21 @@ impl<S: Source> CsvScan<S> {
         requires going { self.old.refused ≡ false }
 
         ensures kinds { IfOk result (λ batch. batch.kinds ≡ self.old.kinds) }
-        ensures gives { (items : List Item) → self.old.left ≡ Some items → IfOk result (λ batch. GivesRows rows items batch.rows self.new.left) }
-        ensures falls { IfOk result (λ batch. length batch.rows + left_count self.new.left ≤ left_count self.old.left) }
+        ensures gives { (items : List Item) → self.old.left ≡ Some items
+            → IfOk result (λ batch. GivesRows rows items batch.rows self.new.left) }
+        ensures falls { IfOk result
+            (λ batch. length batch.rows + left_count self.new.left ≤ left_count self.old.left) }
         ensures going { OnOk result (self.new.refused ≡ false) }
         ensures ended { OnErr result (self.new.refused ≡ true) }
 
         // The file's refusal comes exactly where it is among the next items; the source's only where its count rose.
-        ensures refused { (items : List Item) (e : Refusal) → self.old.left ≡ Some items → result ≡ Err e → is_bad e ≡ true → IsRefused rows items e }
-        ensures read { result ≡ Err refused.Read → Rose (S.faults self.old.source) (S.faults self.new.source) }
+        ensures refused { (items : List Item) (e : Refusal) → self.old.left ≡ Some items
+            → result ≡ Err e → is_bad e ≡ true → IsRefused rows items e }
+        ensures read { result ≡ Err refused.Read
+            → Rose (S.faults self.old.source) (S.faults self.new.source) }
 
-        ensures same { (S.told self.new.source ≡ S.told self.old.source) × (self.new.kinds ≡ self.old.kinds) }
+        ensures same { (S.told self.new.source ≡ S.told self.old.source)
+            × (self.new.kinds ≡ self.old.kinds) }
         ensures later { S.faults self.old.source ≤ S.faults self.new.source }
     {
         let progress = match mem::replace(&mut self.progress, Progress::Refused) {
@@ -101,16 +108,21 @@ impl<S: Source> CsvScan<S> {
         requires going { self.old.refused ≡ false }
 
         ensures fits { IfOk result (λ o. IfSome o (λ row. are_of self.old.kinds row ≡ true)) }
-        ensures gives { (items : List Item) → self.old.left ≡ Some items → IfOk result (λ row. GivesRow (Some items) row self.new.left) }
-        ensures falls { IfOk result (λ o. IfSome o (λ row. left_count self.new.left < left_count self.old.left)) }
+        ensures gives { (items : List Item) → self.old.left ≡ Some items
+            → IfOk result (λ row. GivesRow (Some items) row self.new.left) }
+        ensures falls { IfOk result
+            (λ o. IfSome o (λ row. left_count self.new.left < left_count self.old.left)) }
         ensures going { OnOk result (self.new.refused ≡ false) }
         ensures ended { OnErr result (self.new.refused ≡ true) }
 
         // The file's refusal comes exactly where it is the next item; the source's only where its count rose.
-        ensures refused { (items : List Item) (e : Refusal) → self.old.left ≡ Some items → result ≡ Err e → is_bad e ≡ true → items ≡ Err e ∷ [] }
-        ensures read { result ≡ Err refused.Read → Rose (S.faults self.old.source) (S.faults self.new.source) }
+        ensures refused { (items : List Item) (e : Refusal) → self.old.left ≡ Some items
+            → result ≡ Err e → is_bad e ≡ true → items ≡ Err e ∷ [] }
+        ensures read { result ≡ Err refused.Read
+            → Rose (S.faults self.old.source) (S.faults self.new.source) }
 
-        ensures same { (S.told self.new.source ≡ S.told self.old.source) × (self.new.kinds ≡ self.old.kinds) }
+        ensures same { (S.told self.new.source ≡ S.told self.old.source)
+            × (self.new.kinds ≡ self.old.kinds) }
         ensures later { S.faults self.old.source ≤ S.faults self.new.source }
     {
         let progress = match mem::replace(&mut self.progress, Progress::Refused) {

@@ -195,7 +195,8 @@ pub fn prepare<F: Files>(
     ensures script { (refusal : Refusal) → spec.script_of script.now ≡ Err refusal
         → OrMemory result (Err refusal) }
     ensures whole { IfOk result (λ p. spec.IsOfText script.now partitions p) }
-    ensures planned { IfOk result (λ p. IsWhollyPlanned p.query (map length p.paths) p.plan partitions) }
+    ensures planned { IfOk result
+        (λ p. IsWhollyPlanned p.query (map length p.paths) p.plan partitions) }
 
     // The files stay, and their counts tell of absences and faults.
     ensures same { F.told files.new ≡ F.told files.old }

@@ -153,7 +153,8 @@ impl RealFiles {
     fn refused(&mut self, error: io::Error) -> FilesRefused
         ensures failed { result ≡ refused_as.Failed → Rose self.old.faults self.new.faults }
         ensures absent { result ≡ refused_as.NoSuchFile → Rose self.old.absences self.new.absences }
-        ensures later { (self.old.faults ≤ self.new.faults) × (self.old.absences ≤ self.new.absences) }
+        ensures later { (self.old.faults ≤ self.new.faults)
+            × (self.old.absences ≤ self.new.absences) }
     {
         match error.kind() {
             // Below a file there is nothing.

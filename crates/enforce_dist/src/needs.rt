@@ -14,7 +14,8 @@ use sqlite_items::{Boxed, Items};
 use std::alloc::Global;
 
 fn satisfies(alloc: Global, plan: &Plan, need: &Distribution) -> Result<bool, NoMemory>
-    ensures { IfOk result (λ b. b ≡ tests.satisfies_distribution (declared.props plan.now) need.now) }
+    ensures { IfOk result
+        (λ b. b ≡ tests.satisfies_distribution (declared.props plan.now) need.now) }
 {
     let props = props(alloc, plan)?;
     satisfies_distribution(alloc, &props, need)

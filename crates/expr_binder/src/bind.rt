@@ -44,7 +44,8 @@ fn key_of(
     over: Option<&Grouping<'_>>,
     expr: &ExprAst,
 ) -> Result<Option<Typed>, NoMemory>
-    ensures { IfOk result (λ key. key ≡ spec.key_of columns.now (option_copied over.entry) expr.now) }
+    ensures { IfOk result
+        (λ key. key ≡ spec.key_of columns.now (option_copied over.entry) expr.now) }
 {
     match over {
         None => Ok(None),
@@ -72,7 +73,9 @@ fn named(
     alias: &Option<Text>,
     name: &Text,
 ) -> Result<Typed, Unbound>
-    ensures { Gives result (spec.named columns.now (option_copied over.entry) place (scopes.column_of columns.now place alias.now name.now)) }
+    ensures { Gives result
+        (spec.named columns.now (option_copied over.entry) place
+        (scopes.column_of columns.now place alias.now name.now)) }
 {
     let number = column_of(columns, place, alias, name)?;
     match over {
@@ -111,7 +114,8 @@ fn call(
     expr: &ExprAst,
     kind: Kind,
 ) -> Result<Typed, NoMemory>
-    ensures { IfOk result (λ t. t ≡ spec.column (spec.call_column columns.now groups.now expr.now) kind) }
+    ensures { IfOk result
+        (λ t. t ≡ spec.column (spec.call_column columns.now groups.now expr.now) kind) }
 {
     match call_column(columns, groups, expr) {
         Some(number) => column(number, kind),
@@ -127,7 +131,9 @@ fn aggregate(
     function: FnAst,
     argument: Typed,
 ) -> Result<Typed, Unbound>
-    ensures { Gives result (spec.aggregate columns.now (option_copied over.entry) expr.now (spec.place_of expr.now) function argument) }
+    ensures { Gives result
+        (spec.aggregate columns.now (option_copied over.entry) expr.now
+        (spec.place_of expr.now) function argument) }
 {
     match over {
         None => Err(Unbound::refused(Why::NotGrouped, expr.place)),
@@ -145,7 +151,8 @@ fn counted(
     over: Option<&Grouping<'_>>,
     expr: &ExprAst,
 ) -> Result<Typed, Unbound>
-    ensures { Gives result (spec.counted columns.now (option_copied over.entry) expr.now (spec.place_of expr.now)) }
+    ensures { Gives result
+        (spec.counted columns.now (option_copied over.entry) expr.now (spec.place_of expr.now)) }
 {
     match over {
         None => Err(Unbound::refused(Why::NotGrouped, expr.place)),
@@ -205,7 +212,9 @@ fn applied_to_one(
     function: FnAst,
     operand: Typed,
 ) -> Result<Typed, Unbound>
-    ensures { Gives result (spec.applied_to_one columns.now (option_copied over.entry) expr.now (spec.place_of expr.now) function operand) }
+    ensures { Gives result
+        (spec.applied_to_one columns.now (option_copied over.entry) expr.now
+        (spec.place_of expr.now) function operand) }
 {
     match function {
         FnAst::Abs => absolute(alloc, expr.place, operand),
@@ -223,7 +232,9 @@ fn applied(
     function: FnAst,
     operands: Items<Typed>,
 ) -> Result<Typed, Unbound>
-    ensures { Gives result (spec.applied columns.now (option_copied over.entry) expr.now (spec.place_of expr.now) function operands) }
+    ensures { Gives result
+        (spec.applied columns.now (option_copied over.entry) expr.now
+        (spec.place_of expr.now) function operands) }
 {
     match function {
         FnAst::Coalesce => coalesced(alloc, expr.place, operands),
@@ -297,7 +308,8 @@ fn bind_unary(
     operator: Unary,
     operand: &Boxed<ExprAst>,
 ) -> Result<Typed, Unbound>
-    ensures { Gives result (spec.unary_meaning columns.now (option_copied over.entry) place operator operand.now) }
+    ensures { Gives result
+        (spec.unary_meaning columns.now (option_copied over.entry) place operator operand.now) }
 {
     let operand = bind_expr(alloc, columns, over, operand.get())?;
     apply_unary(alloc, place, operator, operand)
@@ -312,7 +324,9 @@ fn bind_node(
     over: Option<&Grouping<'_>>,
     expr: &ExprAst,
 ) -> Result<Typed, Unbound>
-    ensures { Gives result (spec.of_node columns.now (spec.node_of expr.now) expr.now (spec.place_of expr.now) (option_copied over.entry)) }
+    ensures { Gives result
+        (spec.of_node columns.now (spec.node_of expr.now) expr.now (spec.place_of expr.now)
+        (option_copied over.entry)) }
 {
     let place = expr.place;
     match &expr.node {

@@ -43,7 +43,8 @@ fn add_all(
     exprs: &[ExprAst],
     calls: &mut Items<ExprAst>,
 ) -> Result<(), NoMemory>
-    ensures { OnOk result (calls.new ≡ spec.with_calls columns.now calls.old (spec.calls_of_all exprs.now)) }
+    ensures { OnOk result
+        (calls.new ≡ spec.with_calls columns.now calls.old (spec.calls_of_all exprs.now)) }
 {
     for expr in exprs {
         add_calls_of(alloc, columns, expr, calls)?;
@@ -59,7 +60,8 @@ fn add_arms(
     arms: &[(ExprAst, ExprAst)],
     calls: &mut Items<ExprAst>,
 ) -> Result<(), NoMemory>
-    ensures { OnOk result (calls.new ≡ spec.with_calls columns.now calls.old (spec.calls_of_arms arms.now)) }
+    ensures { OnOk result
+        (calls.new ≡ spec.with_calls columns.now calls.old (spec.calls_of_arms arms.now)) }
 {
     for arm in arms {
         add_calls_of(alloc, columns, &arm.0, calls)?;
@@ -75,7 +77,8 @@ fn add_other(
     other: &Option<Boxed<ExprAst>>,
     calls: &mut Items<ExprAst>,
 ) -> Result<(), NoMemory>
-    ensures { OnOk result (calls.new ≡ spec.with_calls columns.now calls.old (spec.calls_of_other other.now)) }
+    ensures { OnOk result
+        (calls.new ≡ spec.with_calls columns.now calls.old (spec.calls_of_other other.now)) }
 {
     match other {
         None => Ok(()),

@@ -42,7 +42,8 @@ fn same_name(
     other_alias: &Option<Text>,
     other_name: &Text,
 ) -> bool
-    ensures { result ≡ spec.same_name columns.now alias.now name.now other_alias.now other_name.now }
+    ensures { result
+        ≡ spec.same_name columns.now alias.now name.now other_alias.now other_name.now }
 {
     // Most names are unlike, and are told apart without a look at the columns.
     if !may_be_one(alias, name, other_alias, other_name) {
@@ -155,7 +156,8 @@ pub fn same(columns: &[Column], left: &ExprAst, right: &ExprAst) -> bool
 
 #[cycle(alike)]
 fn all_alike(left: &[ExprAst], right: &[ExprAst]) -> bool
-    ensures { result ≡ false → (columns : Columns) → false ≡ spec.all_same (map (spec.same columns) left.now) right.now }
+    ensures { result ≡ false → (columns : Columns)
+        → false ≡ spec.all_same (map (spec.same columns) left.now) right.now }
 {
     if left.len() != right.len() {
         return false;
@@ -170,7 +172,8 @@ fn all_alike(left: &[ExprAst], right: &[ExprAst]) -> bool
 
 #[cycle(alike)]
 fn alike_node(left: &NodeAst, right: &NodeAst) -> bool
-    ensures { result ≡ false → (columns : Columns) → false ≡ spec.same_nodes columns left.now right.now }
+    ensures { result ≡ false → (columns : Columns)
+        → false ≡ spec.same_nodes columns left.now right.now }
 {
     match (left, right) {
         (NodeAst::Number(a), NodeAst::Number(b)) => *a == *b,

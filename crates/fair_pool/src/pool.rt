@@ -102,10 +102,13 @@ impl Pool {
     pub fn try_grow(&mut self, consumer: u32, bytes: u64) -> Result<(), Exhausted>
         requires inside { consumer < length self.old.spillable }
 
-        ensures granted { IsOk result ↔ (held_by self.old consumer + bytes ≤ share_of self.old consumer) }
-        ensures ok { OnOk result (self.new ≡ with_held self.old consumer (held_by self.old consumer + bytes)) }
+        ensures granted { IsOk result ↔
+            (held_by self.old consumer + bytes ≤ share_of self.old consumer) }
+        ensures ok { OnOk result
+            (self.new ≡ with_held self.old consumer (held_by self.old consumer + bytes)) }
 
-        ensures above { OnErr result (share_of self.old consumer < held_by self.old consumer + bytes) }
+        ensures above { OnErr result
+            (share_of self.old consumer < held_by self.old consumer + bytes) }
         ensures tells { IfErr result (λ e. Tells self.old consumer bytes e) }
         ensures err { OnErr result (self.new ≡ self.old) }
     {

@@ -44,7 +44,8 @@ ghost use Rattle.finished_laws.specs.Engine.{IsEngineBy};
 pub fn finished_law()
     ensures channels { (plain p : APlan) (order : List Key) (n : ℕ) → 0 < n → IsFinished plain order n p
         → HasChannels p }
-    ensures parts { (n : ℕ) (p : APlan) → everywhere (spread_needs n) p ≡ true → (counts_of p).parts ≡ partitions p }
+    ensures parts { (n : ℕ) (p : APlan) → everywhere (spread_needs n) p ≡ true
+        → (counts_of p).parts ≡ partitions p }
     ensures single { (plain p : APlan) (order : List Key) (n : ℕ) → IsFinished plain order n p
         → (counts_of p).parts ≡ 1 }
     ensures sound { (phases : Phases) → LawsOfParts phases → (tables : Tables) (q : AQuery)

@@ -29,7 +29,8 @@ impl<B> Model for Channel<B> {
 impl<B> Channel<B> {
     // Puts a batch at the end, and takes the receiver that waits.
     pub fn put(&mut self, batch: B) -> Result<Option<u32>, B>
-        ensures ok { IfOk result (λ waiting. (waiting ≡ self.old.waiting) × (self.new ≡ after_send self.old batch)) }
+        ensures ok { IfOk result
+            (λ waiting. (waiting ≡ self.old.waiting) × (self.new ≡ after_send self.old batch)) }
         ensures err { IfErr result (λ b. (b ≡ batch) × (self.new ≡ self.old)) }
     {
         match self.batches.push_back(batch) {

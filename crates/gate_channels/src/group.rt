@@ -145,7 +145,8 @@ impl<B> Group<B> {
         requires unended { 0 < (channel_at self.old.gate channel).unended }
         requires apart { WaitApart self.old woken.old }
 
-        ensures moves { Moves (ended self.old.gate channel) self.new.gate woken.old.tasks woken.new.tasks }
+        ensures moves { Moves
+            (ended self.old.gate channel) self.new.gate woken.old.tasks woken.new.tasks }
         ensures size { KeepsSize self.old self.new woken.old woken.new }
     {
         let waiting = self.channels[channel as usize].end();
@@ -160,7 +161,8 @@ impl<B> Group<B> {
         requires inside { channel < length self.old.gate.channels }
         requires apart { WaitApart self.old woken.old }
 
-        ensures moves { Moves (dropped self.old.gate channel) self.new.gate woken.old.tasks woken.new.tasks }
+        ensures moves { Moves
+            (dropped self.old.gate channel) self.new.gate woken.old.tasks woken.new.tasks }
         ensures size { KeepsSize self.old self.new woken.old woken.new }
     {
         self.channels[channel as usize].close();

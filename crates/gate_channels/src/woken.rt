@@ -77,7 +77,8 @@ impl Woken {
     // Takes the task at the front.
     fn pop(&mut self) -> Option<u32>
         ensures tasks { self.old.tasks ≡ option_to_list result ++ self.new.tasks }
-        ensures some { IfSome result (λ task. (task < self.old.room) × (count task self.new.tasks ≡ 0)) }
+        ensures some { IfSome result
+            (λ task. (task < self.old.room) × (count task self.new.tasks ≡ 0)) }
         ensures none { IfNone result (self.old.tasks ≡ []) }
         ensures room { self.new.room ≡ self.old.room }
     {

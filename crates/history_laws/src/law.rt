@@ -44,7 +44,8 @@ pub fn recorded_step<B>()
 
 /// At the opening of a plan's run each consumer holds what its task's history tells.
 pub fn held_opening<B>()
-    ensures { (p : Shape) (limit : ℕ) → IsHeld {B = B} p (begun {B = B} p limit).frame (begun {B = B} p limit).pasts }
+    ensures { (p : Shape) (limit : ℕ)
+        → IsHeld {B = B} p (begun {B = B} p limit).frame (begun {B = B} p limit).pasts }
 {}
 
 /// And after each step it does, where each consumer is one task's.
@@ -58,7 +59,8 @@ pub fn held_step<B>()
 /// needs' batches changed, lead from the changed run to the changed one, or lead nowhere alike. Each answers the same,
 /// with the batch changed (`reply`).
 pub fn carried_runs_law<A, B>()
-    ensures begun { (m : A → B) (p : Shape) (limit : ℕ) → map_run m (begun p limit) ≡ begun p limit }
+    ensures begun { (m : A → B) (p : Shape) (limit : ℕ)
+        → map_run m (begun p limit) ≡ begun p limit }
     ensures reply { (m : A → B) (p : Shape) (f : Frame A) (t : ℕ) (k : EntryKind) (need : Need A)
         → reply_of p (map_frame m f) t k (map_need m need) ≡ option_map (map_reply m) (reply_of p f t k need) }
     ensures step { (m : A → B) (p : Shape) (r : Run A) (e : Entry) (need : Need A)

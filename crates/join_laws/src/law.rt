@@ -64,7 +64,8 @@ pub fn join_law()
         → IsHash h
         → Places h (left_keys keys) n (row_parts n lefts) → Places h (right_keys keys) n (row_parts n rights)
         → AreMatched keys n lefts rights }
-    ensures single { (keys : List (ℕ × ℕ)) (lefts rights : ℕ → List Item) → AreMatched keys 1 lefts rights }
+    ensures single { (keys : List (ℕ × ℕ)) (lefts rights : ℕ → List Item)
+        → AreMatched keys 1 lefts rights }
     ensures rows { (kind : Kept) (left_width right_width : ℕ) (keys : List (ℕ × ℕ)) (rest : Option Expr)
         (n : ℕ) (lefts rights : ℕ → List Item)
         → Joined (JoinRow kind keys left_width right_width) (row_parts n lefts) (row_parts n rights)

@@ -107,7 +107,8 @@ fn both_extended(
     keys: &[(Expr, Expr)],
 ) -> Result<(Logical, Logical), NoMemory>
     ensures left { IfOk result (λ both. both.0 ≡ spec.extended left (spec.left_exprs keys.now)) }
-    ensures right { IfOk result (λ both. both.1 ≡ spec.extended right (spec.right_exprs left.width keys.now)) }
+    ensures right { IfOk result
+        (λ both. both.1 ≡ spec.extended right (spec.right_exprs left.width keys.now)) }
 {
     let width = left.width;
     let left = left_extended(alloc, left, keys)?;
@@ -159,7 +160,8 @@ fn join_extended(
 
 /// The columns of both inputs, without so many appended ones of each.
 fn both_columns(alloc: Global, left: u32, count: u32, right: u32) -> Result<Items<Expr>, NoMemory>
-    ensures { IfOk result (λ es. es ≡ spec.columns_from 0 left ++ spec.columns_from (left + count) right) }
+    ensures { IfOk result
+        (λ es. es ≡ spec.columns_from 0 left ++ spec.columns_from (left + count) right) }
 {
     let columns = push_columns(Items::new(alloc), 0, left)?;
     push_columns(columns, sum_of(left, count)?, right)

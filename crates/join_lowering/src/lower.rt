@@ -73,7 +73,8 @@ fn on_counted(
     keys: &[(Expr, Expr)],
     rest: Option<Expr>,
 ) -> Result<Logical, NoMemory>
-    ensures { IfOk result (λ body. body ≡ spec.on_appended kind left right keys.now (length keys.now) rest) }
+    ensures { IfOk result
+        (λ body. body ≡ spec.on_appended kind left right keys.now (length keys.now) rest) }
 {
     let count = count_of(keys)?;
     on_appended(alloc, kind, left, right, keys, count, rest)
@@ -105,7 +106,9 @@ fn on_some(
     keys: &[(Expr, Expr)],
     rest: Option<Expr>,
 ) -> Result<Logical, NoMemory>
-    ensures { IfOk result (λ body. body ≡ spec.on_keys kind left right keys.now (spec.plain_keys left.width keys.now) rest) }
+    ensures { IfOk result
+        (λ body. body
+        ≡ spec.on_keys kind left right keys.now (spec.plain_keys left.width keys.now) rest) }
 {
     let plain = plain_keys(alloc, keys, left.width)?;
     on_keys(alloc, kind, left, right, keys, plain, rest)

@@ -69,8 +69,11 @@ fn with_equality(
     width: u32,
     found: Found,
 ) -> Result<Found, NoMemory>
-    ensures keys { IfOk result (λ f. f.keys ≡ found.keys ++ spec.keys width (expr.Binary op.Eq left right ∷ [])) }
-    ensures rest { IfOk result (λ f. f.rest ≡ spec.conjoined found.rest (spec.others width (expr.Binary op.Eq left right ∷ []))) }
+    ensures keys { IfOk result
+        (λ f. f.keys ≡ found.keys ++ spec.keys width (expr.Binary op.Eq left right ∷ [])) }
+    ensures rest { IfOk result
+        (λ f. f.rest
+        ≡ spec.conjoined found.rest (spec.others width (expr.Binary op.Eq left right ∷ []))) }
 {
     if is_left(left.get(), width) && is_right(right.get(), width) {
         return with_key(found, left, right);
@@ -84,7 +87,8 @@ fn with_equality(
 /// One part more: a key, or what is left to test.
 fn with_part(alloc: Global, found: Found, part: Expr, width: u32) -> Result<Found, NoMemory>
     ensures keys { IfOk result (λ f. f.keys ≡ found.keys ++ spec.keys width (part ∷ [])) }
-    ensures rest { IfOk result (λ f. f.rest ≡ spec.conjoined found.rest (spec.others width (part ∷ []))) }
+    ensures rest { IfOk result
+        (λ f. f.rest ≡ spec.conjoined found.rest (spec.others width (part ∷ []))) }
 {
     match part {
         Expr::Binary(Op::Eq, left, right) => with_equality(alloc, left, right, width, found),

@@ -22,7 +22,8 @@ pub fn kinds_law()
 /// The tables that CSV files mean, whatever the files hold: their rows are of their columns' kinds (`kinds`), each
 /// fault names the table and the file that it is in (`faults`), and a table has as many files as paths (`files`).
 pub fn tables_law()
-    ensures kinds { (all : Contents) (ts : List CsvTable) → TablesHave (table_kinds ts) (tables_from all 0 ts) }
+    ensures kinds { (all : Contents) (ts : List CsvTable)
+        → TablesHave (table_kinds ts) (tables_from all 0 ts) }
     ensures faults { (all : Contents) (ts : List CsvTable) → FaultsAreNamed (tables_from all 0 ts) }
     ensures files { (all : Contents) (ts : List CsvTable)
         → map length (tables_from all 0 ts) ≡ file_counts ts }

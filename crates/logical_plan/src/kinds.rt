@@ -46,7 +46,8 @@ fn column_kind(columns: &[Kind], column: u32) -> Option<Kind>
 }
 
 fn append_keys(kinds: &mut Vec<Kind>, columns: &[Kind], keys: &[u32]) -> Result<(), NoMemory>
-    ensures { OnOk result (kinds.new.items ≡ kinds.old.items ++ spec.key_kinds columns.now keys.now) }
+    ensures { OnOk result
+        (kinds.new.items ≡ kinds.old.items ++ spec.key_kinds columns.now keys.now) }
 {
     for key in keys {
         kinds.push(kind_or_text(column_kind(columns, *key)))?;
@@ -55,7 +56,8 @@ fn append_keys(kinds: &mut Vec<Kind>, columns: &[Kind], keys: &[u32]) -> Result<
 }
 
 fn append_calls(kinds: &mut Vec<Kind>, columns: &[Kind], calls: &[AggCall]) -> Result<(), NoMemory>
-    ensures { OnOk result (kinds.new.items ≡ kinds.old.items ++ spec.call_kinds columns.now calls.now) }
+    ensures { OnOk result
+        (kinds.new.items ≡ kinds.old.items ++ spec.call_kinds columns.now calls.now) }
 {
     for call in calls {
         kinds.push(kind_or_text(call_kind(*call, columns)))?;

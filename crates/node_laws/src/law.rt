@@ -91,5 +91,6 @@ pub fn needs_law()
 
 /// Where a node of plans passes the test, the columns that its needs speak of are in range.
 pub fn range_test_law()
-    ensures { (node : Node PlanInput) → needs_in_range (plans_of node) ≡ true → InRange (inputs_of node) }
+    ensures { (node : Node PlanInput) → needs_in_range (plans_of node) ≡ true
+        → InRange (inputs_of node) }
 {}

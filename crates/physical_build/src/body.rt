@@ -106,7 +106,8 @@ fn build_all(
     n: u32,
 ) -> Result<(Items<Plan>, u32), NoMemory>
     ensures plans { IfOk result (λ r. r.0 ≡ spec.plans files.now n plans.now) }
-    ensures width { IfOk result (λ r. r.1 ≡ spec.first_of None (spec.bodies files.now n plans.now)) }
+    ensures width { IfOk result
+        (λ r. r.1 ≡ spec.first_of None (spec.bodies files.now n plans.now)) }
 {
     let mut all = Items::new(alloc);
     let mut first = None;

@@ -186,7 +186,9 @@ fn first_phase(
     calls: &[AggCall],
     input: Declared,
 ) -> Result<Declared, NoMemory>
-    ensures { IfOk result (λ d. d ≡ spec.grouped (length keys.now + sum (map spec.state_width calls.now)) keys.now input) }
+    ensures { IfOk result
+        (λ d. d ≡ spec.grouped
+        (length keys.now + sum (map spec.state_width calls.now)) keys.now input) }
 {
     let width = sum_of(small(keys.len())?, states_width(calls)?)?;
     grouped(alloc, width, keys, input)
@@ -198,7 +200,8 @@ fn last_phase(
     calls: &[AggCall],
     input: Declared,
 ) -> Result<Declared, NoMemory>
-    ensures { IfOk result (λ d. d ≡ spec.grouped (length keys.now + length calls.now) keys.now input) }
+    ensures { IfOk result
+        (λ d. d ≡ spec.grouped (length keys.now + length calls.now) keys.now input) }
 {
     let width = sum_of(small(keys.len())?, small(calls.len())?)?;
     grouped(alloc, width, keys, input)

@@ -108,7 +108,8 @@ pub(crate) fn partitioning_renamed(
     partitioning: Partitioning,
 ) -> Result<Partitioning, NoMemory>
     requires { length items.now ≤ 2 ^ 32 }
-    ensures { IfOk result (λ p. p ≡ spec.partitioning_renamed (spec.place_in items.now) partitioning) }
+    ensures { IfOk result
+        (λ p. p ≡ spec.partitioning_renamed (spec.place_in items.now) partitioning) }
 {
     match partitioning {
         Partitioning::Hash(columns, count) => {

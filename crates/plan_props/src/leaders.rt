@@ -9,7 +9,8 @@ use std::alloc::Global;
 
 /// Gives every column that has the one leader the other one.
 fn relead(table: &mut [u32], from: u32, to: u32)
-    ensures { (k : ℕ) → k < length table.old → slice_index table.new k ≡ replaced from to (slice_index table.old k) }
+    ensures { (k : ℕ) → k < length table.old
+        → slice_index table.new k ≡ replaced from to (slice_index table.old k) }
 {
     for leader in table.iter_mut() {
         if *leader == from {

@@ -20,7 +20,9 @@ pub struct StageTask {
 #[cycle(count)]
 fn count_all(plans: &[Plan], stages: &mut Vec<u32>) -> Result<u32, NoMemory>
     ensures parts { IfOk result (λ n. n ≡ (counts.in_all (map counts.counts_of plans.now)).parts) }
-    ensures stages { OnOk result (stages.new.items ≡ stages.old.items ++ (counts.in_all (map counts.counts_of plans.now)).stages) }
+    ensures stages { OnOk result
+        (stages.new.items
+        ≡ stages.old.items ++ (counts.in_all (map counts.counts_of plans.now)).stages) }
 {
     let mut total = 0;
     for plan in plans {
@@ -33,7 +35,10 @@ fn count_all(plans: &[Plan], stages: &mut Vec<u32>) -> Result<u32, NoMemory>
 #[cycle(count)]
 #[tactic(auto, using(crate::proofs::Countings::set_here))]
 fn count_stage(input: &Plan, stages: &mut Vec<u32>) -> Result<(), NoMemory>
-    ensures { OnOk result (stages.new.items ≡ stages.old.items ++ (counts.counts_of input.now).parts ∷ (counts.counts_of input.now).stages) }
+    ensures { OnOk result
+        (stages.new.items
+        ≡ stages.old.items ++ (counts.counts_of input.now).parts ∷
+        (counts.counts_of input.now).stages) }
 {
     let at = stages.len();
     stages.push(0)?;
@@ -47,7 +52,8 @@ fn count_stage(input: &Plan, stages: &mut Vec<u32>) -> Result<(), NoMemory>
 #[tactic(auto, using(crate::proofs::Countings::count_nodes, crate::proofs::Countings::scan_stages, crate::proofs::Countings::join_stages))]
 fn count(plan: &Plan, stages: &mut Vec<u32>) -> Result<u32, NoMemory>
     ensures parts { IfOk result (λ n. n ≡ (counts.counts_of plan.now).parts) }
-    ensures stages { OnOk result (stages.new.items ≡ stages.old.items ++ (counts.counts_of plan.now).stages) }
+    ensures stages { OnOk result
+        (stages.new.items ≡ stages.old.items ++ (counts.counts_of plan.now).stages) }
 {
     match plan {
         Plan::Scan {

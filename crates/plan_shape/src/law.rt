@@ -22,5 +22,6 @@ pub fn shape_law()
     ensures numbered { (p : APlan) → flat_map (λ (t : ATask). t.consumers) (shape p).tasks
         ≡ numbers (length (shape p).spillable) }
     ensures laid { (p : APlan) (k : ℕ) → length (layout p k).parts ≡ (counts_of p).parts }
-    ensures opened { (p : APlan) (k : ℕ) → map (λ (s : AStage). length s.parts) (layout p k).stages ≡ (counts_of p).stages }
+    ensures opened { (p : APlan) (k : ℕ)
+        → map (λ (s : AStage). length s.parts) (layout p k).stages ≡ (counts_of p).stages }
 {}

@@ -114,7 +114,8 @@ pub(crate) fn push_tasks(
     targets: &[Items<u32>],
     tasks: &mut Items<TaskShape>,
 ) -> Result<(), NoMemory>
-    ensures { OnOk result (tasks.new ≡ tasks.old ++ spec.tasks_of stage first parts.now targets.now) }
+    ensures { OnOk result
+        (tasks.new ≡ tasks.old ++ spec.tasks_of stage first parts.now targets.now) }
 {
     let mut consumer = first;
     for at in 0..parts.len() {

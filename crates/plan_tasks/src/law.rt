@@ -79,7 +79,8 @@ pub fn start_law()
         → (shape p).spillable ≡ consumers_over f (all_tops p) }
     ensures begins { (f : Doing) → AreOperators f → (p : Plan) (t : ℕ)
         → IsApart (the_task (tasks_of f p) t).tree × IsHolding (λ c. 0) (the_task (tasks_of f p) t).tree }
-    ensures heads { (f : Doing) → AreOperators f → (p : Plan) (t : ℕ) → HeadsOwn (the_task (tasks_of f p) t) }
+    ensures heads { (f : Doing) → AreOperators f → (p : Plan) (t : ℕ)
+        → HeadsOwn (the_task (tasks_of f p) t) }
     ensures filled { (f : Doing) → AreOperators f → (p : Plan) → AreFilled (tasks_of f p) }
 {}
 
@@ -87,7 +88,8 @@ pub fn start_law()
 /// in their order (`placed`). A stage's number is its place, and its group has the channels of its way (`stage`).
 /// What all tasks that send to a group give together is what that stage's partitions give (`feeds`).
 pub fn stages_law()
-    ensures covered { (f : Doing) → AreOperators f → (p : Plan) (u : ℕ) → u < length (shape p).tasks → IsCovered f p u }
+    ensures covered { (f : Doing) → AreOperators f → (p : Plan) (u : ℕ) → u < length (shape p).tasks
+        → IsCovered f p u }
     ensures placed { (f : Doing) → AreOperators f → (p : Plan) (before after : List Top) (t : Top)
         → all_tops p ≡ before ++ t ∷ after
         → (i : ℕ) → i < length (seeds_of f t) → IsPlaced f p before t i }
@@ -125,7 +127,8 @@ pub fn sources_law()
         → map (λ (x : File). x.source) (files_of f p s) ≡ numbers_from s (sources_in p) }
     ensures named { (f : Doing) (p : Plan) (s : ℕ)
         → map (λ (x : File). x.items) (files_of f p s) ≡ map (items_at f) (places_of p) }
-    ensures once { (f : Doing) (p : Plan) → reads_all p ≡ true → SameBag (files_in f (all_tops p)) (files_of f p 0) }
+    ensures once { (f : Doing) (p : Plan) → reads_all p ≡ true
+        → SameBag (files_in f (all_tops p)) (files_of f p 0) }
     ensures leaves { (f : Doing) → AreOperators f → (p : Plan) (a : At) (i : ℕ)
         → Opens (tree_of f p a i) (seed_at f p a.stage a.source i).files }
 {}

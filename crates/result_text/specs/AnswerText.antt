@@ -3,7 +3,6 @@
 use Rattle.std.specs.Prelude.{ℕ, List, [], ◌∷◌, ◌++◌, map}
 use Rattle.csv.specs.Writing.{row_text, default_writer}
 use Rattle.dfx_value.specs.Print.{printed}
-use Rattle.dfx_value.specs.Rows.{cell}
 use Rattle.dfx_value.specs.declared.value.Value.{Value as Cell}
 
 -- the line of the names
@@ -20,7 +19,3 @@ row_lines (r ∷ rs) = row_line r ++ row_lines rs
 
 abbrev pub answer_text : List (List ℕ) → List (List Cell) → List ℕ
 answer_text names rows = header_line names ++ row_lines rows
-
--- some columns of a row, in the order in which they are named
-abbrev pub picked : List ℕ → List Cell → List Cell
-picked columns row = map (cell row) columns

@@ -4,7 +4,8 @@ ghost use Rattle.std.specs.Prelude.{◌≡◌, ◌++◌, ◌<◌, ℕ, List, [],
 ghost use Rattle.csv.specs.Records.{fields_of, partial_of};
 ghost use Rattle.csv.specs.Writing.{row_text, default_writer};
 ghost use Rattle.dfx_value.specs.Print.{printed};
-ghost use Rattle.result_text.specs.AnswerText.{picked, row_line};
+ghost use Rattle.result_text.specs.AnswerText.{row_line};
+ghost use Rattle.dfx_value.specs.Rows.{cells_at};
 ghost use Rattle.result_text.specs.Lines.{Stands};
 
 use csv::{ByteRecord, Writer};
@@ -36,7 +37,10 @@ fn push_cell(
     requires row { at < length batch.now.rows }
     requires column { column < length batch.now.kinds }
     requires whole { partial_of record.old ≡ [] }
-    ensures fields { OnOk result (fields_of record.new ≡ fields_of record.old ++ map printed (picked (column ∷ []) (slice_index_or batch.now.rows at []))) }
+    ensures fields { OnOk result
+        (fields_of record.new
+        ≡ fields_of record.old ++ map printed
+        (cells_at (column ∷ []) (slice_index_or batch.now.rows at []))) }
     ensures whole { OnOk result (partial_of record.new ≡ []) }
 {
     scratch.clear();
@@ -55,7 +59,9 @@ pub fn set_record(
 ) -> Result<(), NoMemory>
     requires row { at < length batch.now.rows }
     requires columns { All (λ c. c < length batch.now.kinds) columns.now }
-    ensures { OnOk result (fields_of record.new ≡ map printed (picked columns.now (slice_index_or batch.now.rows at []))) }
+    ensures { OnOk result
+        (fields_of record.new
+        ≡ map printed (cells_at columns.now (slice_index_or batch.now.rows at []))) }
 {
     record.clear();
     for column in columns {

@@ -47,10 +47,13 @@ impl RowLines {
     /// Puts a value at the end of the line that was begun: its printed text, and nothing for NULL.
     pub fn push(&mut self, value: &Value) -> Result<(), NoMemory>
         ensures text { (text : List ℕ) → Holds self.old text → OnOk result (Holds self.new text) }
-        ensures fields { (text : List ℕ) → Holds self.old text → OnOk result (fields_of self.new.record ≡ fields_of self.old.record ++ printed value.now ∷ []) }
+        ensures fields { (text : List ℕ) → Holds self.old text
+            → OnOk result
+            (fields_of self.new.record ≡ fields_of self.old.record ++ printed value.now ∷ []) }
 
         // For want of memory the lines so far and the fields before this one stay.
-        ensures err { (text : List ℕ) → HasLines self.old text → OnErr result (HasLines self.new text) }
+        ensures err { (text : List ℕ) → HasLines self.old text
+            → OnErr result (HasLines self.new text) }
         ensures kept { OnErr result (fields_of self.new.record ≡ fields_of self.old.record) }
     {
         match value {
@@ -66,14 +69,17 @@ impl RowLines {
 
     /// Ends the line.
     pub fn end(&mut self) -> Result<(), NoMemory>
-        ensures { (text : List ℕ) → Holds self.old text → OnOk result (Holds self.new (text ++ row_text default_writer (fields_of self.old.record))) }
+        ensures { (text : List ℕ) → Holds self.old text
+            → OnOk result
+            (Holds self.new (text ++ row_text default_writer (fields_of self.old.record))) }
     {
         push_line(&mut self.writer, &self.record)
     }
 
     /// Makes a line of a row.
     pub fn push_row(&mut self, row: &Row) -> Result<(), NoMemory>
-        ensures { (text : List ℕ) → Holds self.old text → OnOk result (Holds self.new (text ++ row_line row.now)) }
+        ensures { (text : List ℕ) → Holds self.old text
+            → OnOk result (Holds self.new (text ++ row_line row.now)) }
     {
         self.begin();
         for cell in &row.cells {

@@ -52,7 +52,8 @@ fn end_as_sender<B>(
     sends: Option<u32>,
     targets: &[u32],
 )
-    requires ends { (g : ℕ) → sends ≡ Some g → EndsSenders groups.old.items woken.old g targets.now }
+    requires ends { (g : ℕ) → sends ≡ Some g
+        → EndsSenders groups.old.items woken.old g targets.now }
 
     ensures frame { (pool : APool) (places : List APlace) (progress : List Bool) (failure : Option ACause)
         → frame_of groups.new.items pool woken.new.tasks places progress failure

@@ -26,7 +26,9 @@ pub fn journal_text(alloc: Global, journal: &Journal) -> Result<Bytes, NoMemory>
 }
 
 fn push_settings(text: &mut String, partitions: u32, batch: u32, limit: u64) -> Result<(), NoMemory>
-    ensures { OnOk result (string_bytes text.new ≡ string_bytes text.old ++ spec.settings_line partitions batch limit) }
+    ensures { OnOk result
+        (string_bytes text.new
+        ≡ string_bytes text.old ++ spec.settings_line partitions batch limit) }
 {
     text.push_str("dfx-journal 1")?;
     push_setting(text, " partitions=", partitions as u64)?;
@@ -37,7 +39,8 @@ fn push_settings(text: &mut String, partitions: u32, batch: u32, limit: u64) -> 
 
 #[tactic(auto, unfolding(crate::specs::JournalText::setting))]
 fn push_setting(text: &mut String, name: &str, number: u64) -> Result<(), NoMemory>
-    ensures { OnOk result (string_bytes text.new ≡ string_bytes text.old ++ spec.setting name.now number) }
+    ensures { OnOk result
+        (string_bytes text.new ≡ string_bytes text.old ++ spec.setting name.now number) }
 {
     text.push_str(name)?;
     Ok(write!(text, "{number}")?)
@@ -55,7 +58,8 @@ fn push_line(text: &mut String, entry: &Entry) -> Result<(), NoMemory>
 }
 
 fn push_kind(text: &mut String, kind: &EntryKind) -> Result<(), NoMemory>
-    ensures { OnOk result (string_bytes text.new ≡ string_bytes text.old ++ spec.kind_text kind.now) }
+    ensures { OnOk result
+        (string_bytes text.new ≡ string_bytes text.old ++ spec.kind_text kind.now) }
 {
     match kind {
         EntryKind::Claimed => text.push_str("claimed")?,
@@ -78,14 +82,16 @@ fn push_kind(text: &mut String, kind: &EntryKind) -> Result<(), NoMemory>
 }
 
 fn push_failed(text: &mut String, cause: &Cause) -> Result<(), NoMemory>
-    ensures { OnOk result (string_bytes text.new ≡ string_bytes text.old ++ spec.kind_text (Failed cause.now)) }
+    ensures { OnOk result
+        (string_bytes text.new ≡ string_bytes text.old ++ spec.kind_text (Failed cause.now)) }
 {
     text.push_str("failed ")?;
     push_cause(text, cause)
 }
 
 fn push_cause(text: &mut String, cause: &Cause) -> Result<(), NoMemory>
-    ensures { OnOk result (string_bytes text.new ≡ string_bytes text.old ++ spec.cause_text cause.now) }
+    ensures { OnOk result
+        (string_bytes text.new ≡ string_bytes text.old ++ spec.cause_text cause.now) }
 {
     match cause {
         Cause::Read => text.push_str("read")?,
@@ -116,7 +122,8 @@ fn push_cause(text: &mut String, cause: &Cause) -> Result<(), NoMemory>
 }
 
 fn push_fault(text: &mut String, fault: &EvalFault) -> Result<(), NoMemory>
-    ensures { OnOk result (string_bytes text.new ≡ string_bytes text.old ++ spec.fault_text fault.now) }
+    ensures { OnOk result
+        (string_bytes text.new ≡ string_bytes text.old ++ spec.fault_text fault.now) }
 {
     match fault {
         EvalFault::Overflow => text.push_str("overflow")?,

@@ -111,7 +111,8 @@ pub fn start_law()
 /// What a run keeps, told or not, by each of its acts: at the opening (`begun`), where an entry is made by a need of
 /// the task's own (`made`), and where a task is returned to a run that has failed (`returned`).
 pub fn kept_law<B>()
-    ensures begun { (p : Shape) (limit : ℕ) → IsShape p → IsRun {B = B} p limit [] (opening p limit) }
+    ensures begun { (p : Shape) (limit : ℕ) → IsShape p
+        → IsRun {B = B} p limit [] (opening p limit) }
     ensures made { (p : Shape) (limit : ℕ) (acts : List Act) (f new : Frame B) (e : Entry) (need : Need B)
         → IsShape p → IsRun p limit acts f → IsOwn p e.task need → frame_step p f e need ≡ Some new
         → IsRun p limit (acts ++ Made e ∷ []) new }

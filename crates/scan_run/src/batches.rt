@@ -45,7 +45,8 @@ fn push_next<S: Source>(
     ensures calm { result ≢ Err refused.Write }
     ensures going { OnOk result (scan.new.refused ≡ false) }
     ensures falls { result ≡ Ok true → left_count scan.new.left < left_count scan.old.left }
-    ensures read { result ≡ Err refused.Read → Rose (S.faults scan.old.source) (S.faults scan.new.source) }
+    ensures read { result ≡ Err refused.Read
+        → Rose (S.faults scan.old.source) (S.faults scan.new.source) }
     ensures later { S.faults scan.old.source ≤ S.faults scan.new.source }
 {
     let row = match scan.next_row() {
@@ -82,7 +83,8 @@ fn push_batch<S: Source>(
     ensures calm { result ≢ Err refused.Write }
     ensures going { OnOk result (scan.new.refused ≡ false) }
     ensures falls { result ≡ Ok true → left_count scan.new.left < left_count scan.old.left }
-    ensures read { result ≡ Err refused.Read → Rose (S.faults scan.old.source) (S.faults scan.new.source) }
+    ensures read { result ≡ Err refused.Read
+        → Rose (S.faults scan.old.source) (S.faults scan.new.source) }
     ensures later { S.faults scan.old.source ≤ S.faults scan.new.source }
 {
     for _at in 0..BATCH {
@@ -116,9 +118,11 @@ fn write_batch<S: Source, K: Sink>(
     ensures kind { IfErr result (IsOfRows file) }
     ensures going { OnOk result (scan.new.refused ≡ false) }
     ensures falls { result ≡ Ok true → left_count scan.new.left < left_count scan.old.left }
-    ensures read { result ≡ Err refused.Read → Rose (S.faults scan.old.source) (S.faults scan.new.source) }
+    ensures read { result ≡ Err refused.Read
+        → Rose (S.faults scan.old.source) (S.faults scan.new.source) }
     ensures write { result ≡ Err refused.Write → Rose (K.faults sink.old) (K.faults sink.new) }
-    ensures later { (S.faults scan.old.source ≤ S.faults scan.new.source) × (K.faults sink.old ≤ K.faults sink.new) }
+    ensures later { (S.faults scan.old.source ≤ S.faults scan.new.source)
+        × (K.faults sink.old ≤ K.faults sink.new) }
 {
     let mut lines = RowLines::new(alloc);
     let more = push_batch(alloc, body, file, scan, &mut lines)?;
@@ -150,9 +154,11 @@ pub(crate) fn write_rows<S: Source, K: Sink>(
         → OnErr result (WrotePart body.now (items_of_file table file items) before (K.told sink.new)) }
 
     ensures kind { IfErr result (IsOfRows file) }
-    ensures read { result ≡ Err refused.Read → Rose (S.faults scan.old.source) (S.faults scan.new.source) }
+    ensures read { result ≡ Err refused.Read
+        → Rose (S.faults scan.old.source) (S.faults scan.new.source) }
     ensures write { result ≡ Err refused.Write → Rose (K.faults sink.old) (K.faults sink.new) }
-    ensures later { (S.faults scan.old.source ≤ S.faults scan.new.source) × (K.faults sink.old ≤ K.faults sink.new) }
+    ensures later { (S.faults scan.old.source ≤ S.faults scan.new.source)
+        × (K.faults sink.old ≤ K.faults sink.new) }
 {
     let mut more = true;
     while more {

@@ -82,7 +82,8 @@ pub fn has_sound_kinds(body: &Logical) -> bool
 
 /// The kinds of a chain's Scan.
 pub(crate) fn scan_kinds(alloc: Global, body: &Logical) -> Result<Vec<Kind>, NoMemory>
-    ensures { (scan : Scanned) → spec.scanned body.now ≡ Some scan → IfOk result (λ kinds. kinds.items ≡ scan.kinds) }
+    ensures { (scan : Scanned) → spec.scanned body.now ≡ Some scan
+        → IfOk result (λ kinds. kinds.items ≡ scan.kinds) }
 {
     match chain_scan(body) {
         Some(scan) => Ok(Vec::from_slice(alloc, scan.kinds)?),

@@ -20,13 +20,17 @@ fn open_next<F: Files>(
     path: &Text,
     opened: &mut VecDeque<F::One>,
 ) -> Result<(), RunRefused>
-    ensures one { (all : Contents) → F.told files.old ≡ Some all → OnOk result (Opens F.One.told opened.old.items opened.new.items (content all path.now)) }
-    ensures missing { (f : ℕ) → result ≡ Err (refused.Missing f) → (f ≡ file) × Rose (F.absences files.old) (F.absences files.new) }
-    ensures absent { (all : Contents) (f : ℕ) → F.told files.old ≡ Some all → result ≡ Err (refused.Missing f) → content all path.now ≡ None }
+    ensures one { (all : Contents) → F.told files.old ≡ Some all
+        → OnOk result (Opens F.One.told opened.old.items opened.new.items (content all path.now)) }
+    ensures missing { (f : ℕ) → result ≡ Err (refused.Missing f) → (f ≡ file)
+        × Rose (F.absences files.old) (F.absences files.new) }
+    ensures absent { (all : Contents) (f : ℕ) → F.told files.old ≡ Some all
+        → result ≡ Err (refused.Missing f) → content all path.now ≡ None }
     ensures read { result ≡ Err refused.Read → Rose (F.faults files.old) (F.faults files.new) }
     ensures kind { IfErr result IsOfOpening }
     ensures same { F.told files.new ≡ F.told files.old }
-    ensures later { (F.faults files.old ≤ F.faults files.new) × (F.absences files.old ≤ F.absences files.new) }
+    ensures later { (F.faults files.old ≤ F.faults files.new)
+        × (F.absences files.old ≤ F.absences files.new) }
     ensures many { OnOk result (length opened.new.items ≡ length opened.old.items + 1) }
 {
     match files.open_file(path) {
@@ -50,13 +54,17 @@ pub(crate) fn open_all<F: Files>(
     requires few { length paths.now < 2 ^ 32 }
     requires none { opened.old.items ≡ [] }
 
-    ensures all { (all : Contents) → F.told files.old ≡ Some all → OnOk result (AreOpened all paths.now (map F.One.told opened.new.items)) }
-    ensures missing { (f : ℕ) → result ≡ Err (refused.Missing f) → Rose (F.absences files.old) (F.absences files.new) }
-    ensures absent { (all : Contents) (f : ℕ) → F.told files.old ≡ Some all → result ≡ Err (refused.Missing f) → missing all paths.now ≡ Some f }
+    ensures all { (all : Contents) → F.told files.old ≡ Some all
+        → OnOk result (AreOpened all paths.now (map F.One.told opened.new.items)) }
+    ensures missing { (f : ℕ) → result ≡ Err (refused.Missing f)
+        → Rose (F.absences files.old) (F.absences files.new) }
+    ensures absent { (all : Contents) (f : ℕ) → F.told files.old ≡ Some all
+        → result ≡ Err (refused.Missing f) → missing all paths.now ≡ Some f }
     ensures read { result ≡ Err refused.Read → Rose (F.faults files.old) (F.faults files.new) }
     ensures kind { IfErr result IsOfOpening }
     ensures same { F.told files.new ≡ F.told files.old }
-    ensures later { (F.faults files.old ≤ F.faults files.new) × (F.absences files.old ≤ F.absences files.new) }
+    ensures later { (F.faults files.old ≤ F.faults files.new)
+        × (F.absences files.old ≤ F.absences files.new) }
     ensures many { OnOk result (length opened.new.items ≡ length paths.now) }
 {
     for (file, path) in paths.iter().enumerate() {
@@ -67,7 +75,8 @@ pub(crate) fn open_all<F: Files>(
 
 /// Closes files.
 pub(crate) fn close_all<F: Files>(files: &mut F, opened: VecDeque<F::One>)
-    ensures same { (F.told files.new ≡ F.told files.old) × (F.absences files.new ≡ F.absences files.old) }
+    ensures same { (F.told files.new ≡ F.told files.old)
+        × (F.absences files.new ≡ F.absences files.old) }
     ensures later { F.faults files.old ≤ F.faults files.new }
 {
     let mut opened = opened;

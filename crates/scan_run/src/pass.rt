@@ -74,7 +74,10 @@ fn pass(alloc: Global, body: &Logical, row: Row) -> Result<Option<Row>, EvalRefu
 /// Puts the cell of a column at the end of the line.
 fn push_cell(row: &Row, column: u32, lines: &mut RowLines) -> Result<(), NoMemory>
     ensures text { (text : List ℕ) → Holds lines.old text → OnOk result (Holds lines.new text) }
-    ensures fields { (text : List ℕ) → Holds lines.old text → OnOk result (fields_of lines.new.record ≡ fields_of lines.old.record ++ printed (cell row.now column) ∷ []) }
+    ensures fields { (text : List ℕ) → Holds lines.old text
+        → OnOk result
+        (fields_of lines.new.record
+        ≡ fields_of lines.old.record ++ printed (cell row.now column) ∷ []) }
 {
     match row.cells.get(column as usize) {
         Some(value) => lines.push(value),
@@ -90,7 +93,8 @@ fn push_value(
     row: &Row,
     lines: &mut RowLines,
 ) -> Result<(), EvalRefused>
-    ensures { (text : List ℕ) → Holds lines.old text → AddsCells result (one_cell (value.eval row.now expr.now)) text lines.old lines.new }
+    ensures { (text : List ℕ) → Holds lines.old text
+        → AddsCells result (one_cell (value.eval row.now expr.now)) text lines.old lines.new }
 {
     match expr {
         Expr::Column(column) => push_cell(row, *column, lines)?,
@@ -109,7 +113,8 @@ fn push_projected(
     row: &Row,
     lines: &mut RowLines,
 ) -> Result<(), EvalRefused>
-    ensures { (text : List ℕ) → Holds lines.old text → Adds result (item.as_item (item.projected_row exprs.now row.now) ∷ []) text lines.new }
+    ensures { (text : List ℕ) → Holds lines.old text
+        → Adds result (item.as_item (item.projected_row exprs.now row.now) ∷ []) text lines.new }
 {
     lines.begin();
     for expr in exprs {
@@ -126,7 +131,8 @@ fn push_through(
     row: Row,
     lines: &mut RowLines,
 ) -> Result<(), EvalRefused>
-    ensures { (text : List ℕ) → Holds lines.old text → Adds result (item.project_items exprs.now (over input.now (Ok row ∷ []))) text lines.new }
+    ensures { (text : List ℕ) → Holds lines.old text
+        → Adds result (item.project_items exprs.now (over input.now (Ok row ∷ []))) text lines.new }
 {
     match pass(alloc, input, row)? {
         Some(row) => push_projected(alloc, exprs, &row, lines),
@@ -141,7 +147,8 @@ fn push_given(
     row: Row,
     lines: &mut RowLines,
 ) -> Result<(), EvalRefused>
-    ensures { (text : List ℕ) → Holds lines.old text → Adds result (over body.now (Ok row ∷ [])) text lines.new }
+    ensures { (text : List ℕ) → Holds lines.old text
+        → Adds result (over body.now (Ok row ∷ [])) text lines.new }
 {
     match pass(alloc, body, row)? {
         Some(row) => Ok(lines.push_row(&row)?),
@@ -157,7 +164,8 @@ pub(crate) fn push_passed(
     row: Row,
     lines: &mut RowLines,
 ) -> Result<(), EvalRefused>
-    ensures { (text : List ℕ) → Holds lines.old text → Adds result (over body.now (Ok row ∷ [])) text lines.new }
+    ensures { (text : List ℕ) → Holds lines.old text
+        → Adds result (over body.now (Ok row ∷ [])) text lines.new }
 {
     match body {
         Logical::Project { input, items } => {

@@ -35,7 +35,9 @@ fn scan_of<S: Source>(alloc: Global, body: &Logical, source: S) -> Result<CsvSca
     requires sound { chain.AreSound (chain.scanned body.now) }
 
     ensures source { IfOk result (λ scan. scan.source ≡ source) }
-    ensures left { (s : Scanned) → chain.scanned body.now ≡ Some s → IfOk result (λ scan. scan.left ≡ option_map (λ bytes. csv_items bytes s.kinds) (S.told source)) }
+    ensures left { (s : Scanned) → chain.scanned body.now ≡ Some s
+        → IfOk result
+        (λ scan. scan.left ≡ option_map (λ bytes. csv_items bytes s.kinds) (S.told source)) }
     ensures going { IfOk result (λ scan. scan.refused ≡ false) }
     ensures err { IfErr result (λ same. same ≡ source) }
 {
@@ -68,8 +70,10 @@ fn write_file<F: Files, K: Sink>(
     ensures kind { IfErr result (IsOfRows file) }
     ensures read { result ≡ Err refused.Read → Rose (F.faults files.old) (F.faults files.new) }
     ensures write { result ≡ Err refused.Write → Rose (K.faults sink.old) (K.faults sink.new) }
-    ensures same { (F.told files.new ≡ F.told files.old) × (F.absences files.new ≡ F.absences files.old) }
-    ensures later { (F.faults files.old ≤ F.faults files.new) × (K.faults sink.old ≤ K.faults sink.new) }
+    ensures same { (F.told files.new ≡ F.told files.old)
+        × (F.absences files.new ≡ F.absences files.old) }
+    ensures later { (F.faults files.old ≤ F.faults files.new)
+        × (K.faults sink.old ≤ K.faults sink.new) }
 {
     let mut scan = match scan_of(alloc, body, source) {
         Ok(scan) => scan,
@@ -105,8 +109,10 @@ fn write_files<F: Files, K: Sink>(
     ensures kind { IfErr result IsOfRun }
     ensures read { result ≡ Err refused.Read → Rose (F.faults files.old) (F.faults files.new) }
     ensures write { result ≡ Err refused.Write → Rose (K.faults sink.old) (K.faults sink.new) }
-    ensures same { (F.told files.new ≡ F.told files.old) × (F.absences files.new ≡ F.absences files.old) }
-    ensures later { (F.faults files.old ≤ F.faults files.new) × (K.faults sink.old ≤ K.faults sink.new) }
+    ensures same { (F.told files.new ≡ F.told files.old)
+        × (F.absences files.new ≡ F.absences files.old) }
+    ensures later { (F.faults files.old ≤ F.faults files.new)
+        × (K.faults sink.old ≤ K.faults sink.new) }
 {
     let count = opened.len() as u32;
     for file in 0..count {
@@ -141,8 +147,10 @@ fn write_answer<F: Files, K: Sink>(
     ensures kind { IfErr result IsOfRun }
     ensures read { result ≡ Err refused.Read → Rose (F.faults files.old) (F.faults files.new) }
     ensures write { result ≡ Err refused.Write → Rose (K.faults sink.old) (K.faults sink.new) }
-    ensures same { (F.told files.new ≡ F.told files.old) × (F.absences files.new ≡ F.absences files.old) }
-    ensures later { (F.faults files.old ≤ F.faults files.new) × (K.faults sink.old ≤ K.faults sink.new) }
+    ensures same { (F.told files.new ≡ F.told files.old)
+        × (F.absences files.new ≡ F.absences files.old) }
+    ensures later { (F.faults files.old ≤ F.faults files.new)
+        × (K.faults sink.old ≤ K.faults sink.new) }
 {
     let Ok(header) = header_text(alloc, query.names.as_slice()) else {
         return Err(RunRefused::NoMemory);
@@ -175,9 +183,11 @@ fn open_and_write<F: Files, K: Sink>(
         → OnErr result (Began (record { query = query.now; scan = scan; paths = paths.now; all = all; before = before }) (K.told sink.new)) }
     ensures read { result ≡ Err refused.Read → Rose (F.faults files.old) (F.faults files.new) }
     ensures write { result ≡ Err refused.Write → Rose (K.faults sink.old) (K.faults sink.new) }
-    ensures missing { (f : ℕ) → result ≡ Err (refused.Missing f) → Rose (F.absences files.old) (F.absences files.new) }
+    ensures missing { (f : ℕ) → result ≡ Err (refused.Missing f)
+        → Rose (F.absences files.old) (F.absences files.new) }
     ensures same { F.told files.new ≡ F.told files.old }
-    ensures later { (F.faults files.old ≤ F.faults files.new) × (F.absences files.old ≤ F.absences files.new) × (K.faults sink.old ≤ K.faults sink.new) }
+    ensures later { (F.faults files.old ≤ F.faults files.new)
+        × (F.absences files.old ≤ F.absences files.new) × (K.faults sink.old ≤ K.faults sink.new) }
 {
     open_all(files, paths, opened)?;
     write_answer(alloc, query, files, sink, opened)
@@ -219,9 +229,11 @@ pub fn run_chain<F: Files, K: Sink>(
     // Told or not: what failed where an object is said to have failed or to lack a path.
     ensures read { result ≡ Err refused.Read → Rose (F.faults files.old) (F.faults files.new) }
     ensures write { result ≡ Err refused.Write → Rose (K.faults sink.old) (K.faults sink.new) }
-    ensures missing { (f : ℕ) → result ≡ Err (refused.Missing f) → Rose (F.absences files.old) (F.absences files.new) }
+    ensures missing { (f : ℕ) → result ≡ Err (refused.Missing f)
+        → Rose (F.absences files.old) (F.absences files.new) }
     ensures same { F.told files.new ≡ F.told files.old }
-    ensures later { (F.faults files.old ≤ F.faults files.new) × (F.absences files.old ≤ F.absences files.new) × (K.faults sink.old ≤ K.faults sink.new) }
+    ensures later { (F.faults files.old ≤ F.faults files.new)
+        × (F.absences files.old ≤ F.absences files.new) × (K.faults sink.old ≤ K.faults sink.new) }
 {
     let mut opened = VecDeque::new(alloc);
     let ran = open_and_write(alloc, query, paths, files, sink, &mut opened);

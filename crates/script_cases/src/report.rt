@@ -104,7 +104,8 @@ impl Report {
 
     /// Adds a record that passed.
     pub fn add_passed(&mut self) -> Result<(), AllocError>
-        ensures { OnOk result (self.new.outcomes.items ≡ self.old.outcomes.items ++ went.Passed ∷ []) }
+        ensures { OnOk result
+            (self.new.outcomes.items ≡ self.old.outcomes.items ++ went.Passed ∷ []) }
     {
         self.outcomes.push(Outcome::Passed)?;
         Ok(())
@@ -112,7 +113,8 @@ impl Report {
 
     /// Adds what means nothing.
     pub fn add_refused(&mut self, refused: Refused) -> Result<(), AllocError>
-        ensures { OnOk result (self.new.outcomes.items ≡ self.old.outcomes.items ++ went.Failed ∷ []) }
+        ensures { OnOk result
+            (self.new.outcomes.items ≡ self.old.outcomes.items ++ went.Failed ∷ []) }
     {
         self.outcomes.push(Outcome::Failed)?;
         let Refused { line, why } = refused;
@@ -126,7 +128,8 @@ impl Report {
         record: &Record,
         left: &Left,
     ) -> Result<(), AllocError>
-        ensures { OnOk result (self.new.outcomes.items ≡ self.old.outcomes.items ++ went.Failed ∷ []) }
+        ensures { OnOk result
+            (self.new.outcomes.items ≡ self.old.outcomes.items ++ went.Failed ∷ []) }
     {
         self.outcomes.push(Outcome::Failed)?;
         let expected = &record.expected;

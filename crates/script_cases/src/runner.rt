@@ -125,7 +125,8 @@ fn run_record(
     record: &Record,
     report: &mut Report,
 ) -> Result<(), AllocError>
-    ensures { OnOk result (length report.new.outcomes.items ≡ length report.old.outcomes.items + 1) }
+    ensures { OnOk result
+        (length report.new.outcomes.items ≡ length report.old.outcomes.items + 1) }
 {
     match run(alloc, commons, record) {
         Err(why) => report.add_refused(why.at(record.line)),

@@ -41,9 +41,12 @@ ghost use Rattle.sort_laws.specs.Arranging.{IsArrangedAs};
 /// As a sort of items it gives the faults and then the rows (`items`), and these are such as a Sort
 /// node may give of the rows of each partition (`arranged`).
 pub fn sort_law()
-    ensures order { (keys : List Key) (taken : List Cells) → IsSorted (row_cmp keys) (sort_rows keys taken) }
-    ensures stable { (keys : List Key) (taken : List Cells) → IsStable (row_cmp keys) taken (sort_rows keys taken) }
-    ensures moves { (keys : List Key) (taken : List Cells) → IsPermutation taken (sort_rows keys taken) }
+    ensures order { (keys : List Key) (taken : List Cells)
+        → IsSorted (row_cmp keys) (sort_rows keys taken) }
+    ensures stable { (keys : List Key) (taken : List Cells)
+        → IsStable (row_cmp keys) taken (sort_rows keys taken) }
+    ensures moves { (keys : List Key) (taken : List Cells)
+        → IsPermutation taken (sort_rows keys taken) }
     ensures one { (keys : List Key) (taken given : List Cells)
         → IsSorted (row_cmp keys) given → IsStable (row_cmp keys) taken given → given ≡ sort_rows keys taken }
     ensures cut { (keys : List Key) (segments : List (List Cells))
@@ -132,7 +135,8 @@ pub fn nodes_law()
 pub fn bag_law()
     ensures items { (xs ys : List Item) → SameBag xs ys → IsPermutation xs ys }
     ensures rows { (xs ys : List Cells) → SameBag xs ys → IsPermutation xs ys }
-    ensures arranged { (xs ys : List Item) → Alike xs ys → (zs : List Item) × IsArrangedAs xs ys zs }
+    ensures arranged { (xs ys : List Item) → Alike xs ys → (zs : List Item)
+        × IsArrangedAs xs ys zs }
     ensures alike { (xs ys : List Item)
         → SameBag (rows xs) (rows ys) → length (faults xs) ≡ length (faults ys) → Alike xs ys }
 {}
@@ -162,14 +166,17 @@ pub fn answer_law()
         → Allows order skip fetch items (rows ((limit_op skip fetch).items t)) }
     ensures all { (order : List Key) (given : List Cells) (items : List Item)
         → Alike (of_rows given) items → IsSorted (row_cmp order) given → Allows order 0 None items given }
-    ensures none { (order : List Key) (offset : ℕ) (items : List Item) → Allows order offset (Some 0) items [] }
+    ensures none { (order : List Key) (offset : ℕ) (items : List Item)
+        → Allows order offset (Some 0) items [] }
     ensures resorted { (order : List Key) (offset : ℕ) (limit : Option ℕ) (items : List Item)
         (answer other : List Cells)
         → Allows order offset limit items answer → IsPermutation answer other → IsSorted (row_cmp order) other
         → Allows order offset limit items other }
     ensures unordered { (rs : List Cells) → IsSorted (row_cmp []) rs }
-    ensures in_order { (keys : List Key) (rs : List Cells) → InOrder keys rs → IsSorted (row_cmp keys) rs }
-    ensures sorted { (keys : List Key) (rs : List Cells) → IsSorted (row_cmp keys) rs → InOrder keys rs }
+    ensures in_order { (keys : List Key) (rs : List Cells) → InOrder keys rs
+        → IsSorted (row_cmp keys) rs }
+    ensures sorted { (keys : List Key) (rs : List Cells) → IsSorted (row_cmp keys) rs
+        → InOrder keys rs }
 {}
 
 /// The answer at the root, as the trees of tasks give it once they have ended.

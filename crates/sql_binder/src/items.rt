@@ -43,7 +43,8 @@ fn kind_of_key(kinds: &[Kind], at: usize) -> Kind
 
 /// A column itself.
 fn own_column(alloc: Global, column: &Column, number: usize) -> Result<Output, NoMemory>
-    ensures { IfOk result (λ o. o ≡ record { name = column.now.name; expr = expr.Column number; kind = column.now.kind }) }
+    ensures { IfOk result
+        (λ o. o ≡ record { name = column.now.name; expr = expr.Column number; kind = column.now.kind }) }
 {
     Ok(Output {
         name: column.name.copy(alloc)?,
@@ -98,7 +99,8 @@ fn is_given(alias: Option<&Text>, column: &Column) -> bool
 
 /// The numbers of the columns that `*`, or `alias.*`, gives.
 fn given(alloc: Global, columns: &[Column], alias: Option<&Text>) -> Result<Vec<usize>, NoMemory>
-    ensures numbers { IfOk result (λ numbers. numbers.items ≡ spec.given (option_copied alias.entry) columns.now) }
+    ensures numbers { IfOk result
+        (λ numbers. numbers.items ≡ spec.given (option_copied alias.entry) columns.now) }
     ensures within { IfOk result (λ numbers. All (λ n. n < length columns.now) numbers.items) }
 {
     let mut numbers = Vec::new(alloc);
@@ -133,7 +135,8 @@ fn stars(
     place: u32,
     alias: Option<&Text>,
 ) -> Result<Seq<Output>, Unbound>
-    ensures { Gives result (spec.stars scope.now.columns scope.now.over place (option_copied alias.entry)) }
+    ensures { Gives result
+        (spec.stars scope.now.columns scope.now.over place (option_copied alias.entry)) }
 {
     if is_unknown(alias, scope.columns()) {
         return Err(Unbound::from(Refusal::new(Why::UnknownTable, place)));
@@ -175,7 +178,8 @@ fn expr_output(
     expr: &ExprAst,
     name: &Option<Text>,
 ) -> Result<Output, Unbound>
-    ensures { Gives result (spec.expr_output scope.now.columns scope.now.over position expr.now name.now) }
+    ensures { Gives result
+        (spec.expr_output scope.now.columns scope.now.over position expr.now name.now) }
 {
     let (bound, kind) = settle(bind_expr(alloc, scope.columns(), scope.groups(), expr)?);
     Ok(Output {

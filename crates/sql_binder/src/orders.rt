@@ -81,7 +81,9 @@ fn sum(left: usize, right: usize) -> Result<usize, NoMemory>
 /// The first column of the items that a key equals.
 #[tactic(auto, using(crate::proofs::FirstNumbers::numbers))]
 fn number_in_items(single: Single<'_>, key: &ExprAst) -> Result<Option<usize>, NoMemory>
-    ensures { IfOk result (λ number. number ≡ spec.number_from single.entry.columns.now 0 single.entry.items.now key.now) }
+    ensures { IfOk result
+        (λ number. number
+        ≡ spec.number_from single.entry.columns.now 0 single.entry.items.now key.now) }
 {
     let mut behind = 0;
     for item in single.items {
@@ -111,7 +113,9 @@ fn item_of(single: Option<Single<'_>>, key: &ExprAst) -> Result<usize, Unbound>
 fn number_of_name(names: &[Text], name: &Text, first: usize) -> Option<usize>
     ensures number { result ≡ spec.head_of (spec.named_from first name.now (drop first names.now)) }
     ensures within { IfSome result (λ number. number < length names.now) }
-    ensures rest { IfSome result (λ number. spec.named_from first name.now (drop first names.now) ≡ number ∷ spec.named_from (suc number) name.now (drop (suc number) names.now)) }
+    ensures rest { IfSome result
+        (λ number. spec.named_from first name.now (drop first names.now)
+        ≡ number ∷ spec.named_from (suc number) name.now (drop (suc number) names.now)) }
 {
     for number in first..names.len() {
         if names[number] == *name {
@@ -158,7 +162,9 @@ fn has_point(text: &[u8]) -> bool
 /// The number of a name's column, where no later column has it.
 fn only_number(names: &[Text], name: &Text, first: usize, place: u32) -> Result<usize, Unbound>
     requires { first < length names.now }
-    ensures { Gives result (spec.only first (spec.named_from (suc first) name.now (drop (suc first) names.now)) place) }
+    ensures { Gives result
+        (spec.only first
+        (spec.named_from (suc first) name.now (drop (suc first) names.now)) place) }
 {
     match number_of_name(names, name, first + 1) {
         None => Ok(first),
@@ -173,7 +179,8 @@ fn column_of_key(
     single: Option<Single<'_>>,
     key: &ExprAst,
 ) -> Result<usize, Unbound>
-    ensures { Gives result (spec.column_of_key names.now (option_map spec.viewed single.entry) key.now) }
+    ensures { Gives result
+        (spec.column_of_key names.now (option_map spec.viewed single.entry) key.now) }
 {
     match &key.node {
         NodeAst::Number(text) if !has_point(text.bytes()) => position(

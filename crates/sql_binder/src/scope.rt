@@ -93,7 +93,8 @@ impl<'a> Scope<'a> {
         columns: &'a [Column],
         groups: Grouping<'a>,
     ) -> Result<Scope<'a>, NoMemory>
-        ensures { IfOk result (λ s. s ≡ record { columns = columns.now; over = Some groups.entry }) }
+        ensures { IfOk result
+            (λ s. s ≡ record { columns = columns.now; over = Some groups.entry }) }
     {
         let firsts = first_keys(alloc, columns, groups.keys)?;
         Ok(Scope {

@@ -125,7 +125,8 @@ fn read(
     before: &[Column],
     from: &FromAst,
 ) -> Result<Source, Unbound>
-    ensures { Gives result (sources.under_new_alias before.now (spec.reading_of tables.now from.now)) }
+    ensures { Gives result
+        (sources.under_new_alias before.now (spec.reading_of tables.now from.now)) }
 {
     match from {
         FromAst::Named {

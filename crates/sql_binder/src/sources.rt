@@ -201,7 +201,9 @@ fn joined_bodies(
     columns: &[Column],
     on: &ExprAst,
 ) -> Result<Logical, Unbound>
-    ensures { Gives result (spec.joined_body kind (record { body = left.0; width = left.1 }) (record { body = right.0; width = right.1 }) columns.now on.now) }
+    ensures { Gives result
+        (spec.joined_body kind (record { body = left.0; width = left.1 })
+        (record { body = right.0; width = right.1 }) columns.now on.now) }
 {
     let (left, left_columns) = left;
     let (right, right_columns) = right;

@@ -109,7 +109,8 @@ fn table(
     statement: &TableAst,
     files: &Schema,
 ) -> Result<Table, Unbound>
-    ensures { Gives result (spec.table before.now statement.now (spec.schema_of statement.now files.now)) }
+    ensures { Gives result
+        (spec.table before.now statement.now (spec.schema_of statement.now files.now)) }
 {
     let schema = schema_of(alloc, statement, files)?;
     table_with(alloc, before, statement, schema)
@@ -137,7 +138,8 @@ pub fn tables(
 }
 
 fn column_under(alloc: Global, alias: &Text, name: &Text, kind: Kind) -> Result<Column, NoMemory>
-    ensures { IfOk result (λ column. column ≡ record { alias = alias.now; name = name.now; kind = kind }) }
+    ensures { IfOk result
+        (λ column. column ≡ record { alias = alias.now; name = name.now; kind = kind }) }
 {
     Ok(Column {
         alias: alias.copy(alloc)?,
@@ -153,7 +155,8 @@ pub fn columns_under(
     names: &[Text],
     kinds: &[Kind],
 ) -> Result<Vec<Column>, NoMemory>
-    ensures { IfOk result (λ columns. columns.items ≡ spec.columns_under alias.now names.now kinds.now) }
+    ensures { IfOk result
+        (λ columns. columns.items ≡ spec.columns_under alias.now names.now kinds.now) }
 {
     let mut columns = Vec::with_capacity(alloc, names.len())?;
     for at in 0..names.len() {

@@ -26,7 +26,8 @@ ghost use Rattle.tree_laws.specs.Exits.{HeadsOwn, is_of_send};
 /// Each poll keeps it (`polled`). What a tree gave is a front of what it would give of whole channels, and all of
 /// it where it ends (`whole`). Both are so of each tree in it (`linked`, `fronts`).
 pub fn tree_law()
-    ensures polled { (size : ℕ) (past : Past (List Cells)) (t : Tree) → IsLinked size past t → Keeps size past t (poll size t) }
+    ensures polled { (size : ℕ) (past : Past (List Cells)) (t : Tree) → IsLinked size past t
+        → Keeps size past t (poll size t) }
     ensures whole { (size : ℕ) (past : Past (List Cells)) (full : ℕ → ℕ → List Item) (t : Tree)
         → IsLinked size past t → IsFlow past full t → IsWhole size full t }
     ensures linked { (size : ℕ) (past : Past (List Cells)) (t x : Tree)
@@ -58,8 +59,11 @@ pub fn run_law()
 /// merge of any number of inputs by any order.
 pub fn kinds_law()
     ensures each { (f : Item → List Item) → IsOp (each_op f) }
-    ensures end { (f : List Item → List Item) (amount : Told → List Cells → ℕ) (consumer : Option ℕ) → IsOp (end_op f amount consumer) }
-    ensures segment { (f : List Item → List Item) (amount : Told → List Cells → ℕ) (consumer : Option ℕ) → IsOp (segment_op f amount consumer) }
+    ensures end { (f : List Item → List Item) (amount : Told → List Cells → ℕ) (consumer : Option ℕ)
+        → IsOp (end_op f amount consumer) }
+    ensures segment { (f : List Item → List Item) (amount : Told → List Cells → ℕ)
+        (consumer : Option ℕ)
+        → IsOp (segment_op f amount consumer) }
     ensures limit { (skip : ℕ) (fetch : Option ℕ) → IsOp (limit_op skip fetch) }
     ensures join { (probe : List Item → Item → List Item) (last : List Item → List Item → List Item) (amount : Told → List Cells → ℕ) (consumer : Option ℕ)
         → IsOp (join_op probe last amount consumer) }
@@ -75,9 +79,12 @@ pub fn settle_law()
     ensures one { (size : ℕ) (k : Task) (w v : Wait) → Settles size k w → Settles size k v → w ≡ v }
     ensures goes { (size : ℕ) (k rest : Task) (w : Wait)
         → turn size k ≡ Goes rest → Settles size rest w → Settles size k w }
-    ensures here { (size : ℕ) (w : Wait) → turn size w.now ≡ Waits w.need w.after → Settles size w.now w }
-    ensures waits { (size : ℕ) (k : Task) (w : Wait) → Settles size k w → turn size w.now ≡ Waits w.need w.after }
-    ensures again { (size : ℕ) (k : Task) (w : Wait) → Settles size k w → settle size 1 w.now ≡ Some w }
+    ensures here { (size : ℕ) (w : Wait) → turn size w.now ≡ Waits w.need w.after
+        → Settles size w.now w }
+    ensures waits { (size : ℕ) (k : Task) (w : Wait) → Settles size k w
+        → turn size w.now ≡ Waits w.need w.after }
+    ensures again { (size : ℕ) (k : Task) (w : Wait) → Settles size k w
+        → settle size 1 w.now ≡ Some w }
 {}
 
 /// Entries that lead to a state lead to the same within more steps (`more`); so to at most one, whatever the number

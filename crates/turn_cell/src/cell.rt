@@ -36,7 +36,8 @@ fn seat_all<T: Kept>(
     seats: u32,
 ) -> Vec<Seat<T>>
     requires some { 1 ≤ seats }
-    requires table { (root.table_id ≡ table.now.shared.table_id) × (0 < table.now.shared.table_id.words) }
+    requires table { (root.table_id ≡ table.now.shared.table_id)
+        × (0 < table.now.shared.table_id.words) }
     requires root { root.me ≡ (resting (named_in root.me) (fresh 0 seats), []) }
     requires row { (row.items ≡ []) × (seats ≤ vec_capacity row) }
     ensures len { length result.items ≡ seats }
@@ -64,7 +65,8 @@ fn gather<T: Kept>(
 ) -> atomic_table::Seat<Option<T>, View<T::Opening>>
     requires some { 1 ≤ length seats.items }
     requires table { 0 < table.now.shared.table_id.words }
-    requires idle { All (λ s. (s.place.table_id ≡ table.now.shared.table_id) × IsIdle s) seats.items }
+    requires idle { All
+        (λ s. (s.place.table_id ≡ table.now.shared.table_id) × IsIdle s) seats.items }
     ensures table { result.table_id ≡ table.now.shared.table_id }
     ensures idle { result.me ≡ (resting (named_in result.me) result.me.0.hands, []) }
     ensures count { length result.me.0.hands ≡ length seats.items }
@@ -111,7 +113,8 @@ impl<T: Kept> TurnCell<T> {
     pub fn new(alloc: Global, value: T, seats: u32) -> Result<(TurnCell<T>, Vec<Seat<T>>), T>
         requires some { 1 ≤ seats }
         requires unused { T.acts value ≡ [] }
-        ensures cell { IfOk result (λ r. (seats_of r.0 ≡ seats) × (T.opened (first_value r.0) ≡ T.opened value)) }
+        ensures cell { IfOk result
+            (λ r. (seats_of r.0 ≡ seats) × (T.opened (first_value r.0) ≡ T.opened value)) }
         ensures seats { IfOk result (λ r. length r.1.items ≡ seats) }
         ensures each { IfOk result (λ r. (k : ℕ) (d : _) → k < seats
             → IsNew r.0 (T.opened value) k (slice_index_or r.1.items k d)) }
@@ -161,7 +164,8 @@ impl<T: Kept> TurnCell<T> {
     fn look(&self, seat: &mut Seat<T>, ticket: u64) -> Result<T, u64>
         requires cell { IsSeatOf self.now seat.old }
         requires ticket { HasTicket ticket seat.old }
-        ensures same { (seat.new.number ≡ seat.old.number) × (seat.new.place.table_id ≡ seat.old.place.table_id) }
+        ensures same { (seat.new.number ≡ seat.old.number)
+            × (seat.new.place.table_id ≡ seat.old.place.table_id) }
         ensures turn { IfOk result (λ value. HasTurn seat.new × (opening_of seat.new ≡ opening_of seat.old)
             × (seen_of seat.new ≡ T.acts value) × (opening_of seat.old ≡ Some (T.opened value))
             × Follows (number_of seat.old) (seen_of seat.old) (T.acts value)) }

@@ -57,7 +57,8 @@ fn the_one(
     alias: &Option<Text>,
     name: &Text,
 ) -> Result<usize, Refusal>
-    ensures { result ≡ spec.the_one place (spec.numbers (spec.is_named alias.now name.now) columns.now) }
+    ensures { result
+        ≡ spec.the_one place (spec.numbers (spec.is_named alias.now name.now) columns.now) }
 {
     let mut found = None;
     for (number, column) in columns.iter().enumerate() {

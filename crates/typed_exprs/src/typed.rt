@@ -70,7 +70,8 @@ pub fn or_mismatch(place: u32, kind: Option<Kind>) -> Result<Kind, Refusal>
 
 /// NOT.
 fn negated(alloc: Global, place: u32, operand: Typed) -> Result<Typed, Unbound>
-    ensures { answer.Gives result (spec.of_kind place expr.Not kinds.when_bool (spec.settled operand)) }
+    ensures { answer.Gives result
+        (spec.of_kind place expr.Not kinds.when_bool (spec.settled operand)) }
 {
     let (inner, kind) = settle(operand);
     let kind = or_mismatch(place, when_bool(kind))?;
@@ -79,7 +80,8 @@ fn negated(alloc: Global, place: u32, operand: Typed) -> Result<Typed, Unbound>
 
 /// `-` before a number.
 fn opposite(alloc: Global, place: u32, operand: Typed) -> Result<Typed, Unbound>
-    ensures { answer.Gives result (spec.of_kind place expr.Neg kinds.when_number (spec.settled operand)) }
+    ensures { answer.Gives result
+        (spec.of_kind place expr.Neg kinds.when_number (spec.settled operand)) }
 {
     let (inner, kind) = settle(operand);
     let kind = or_mismatch(place, when_number(kind))?;
@@ -88,7 +90,8 @@ fn opposite(alloc: Global, place: u32, operand: Typed) -> Result<Typed, Unbound>
 
 /// ABS.
 pub fn absolute(alloc: Global, place: u32, operand: Typed) -> Result<Typed, Unbound>
-    ensures { answer.Gives result (spec.of_kind place expr.Abs kinds.when_number (spec.settled operand)) }
+    ensures { answer.Gives result
+        (spec.of_kind place expr.Abs kinds.when_number (spec.settled operand)) }
 {
     let (inner, kind) = settle(operand);
     let kind = or_mismatch(place, when_number(kind))?;
@@ -97,7 +100,8 @@ pub fn absolute(alloc: Global, place: u32, operand: Typed) -> Result<Typed, Unbo
 
 /// LENGTH.
 pub fn length_of(alloc: Global, place: u32, operand: Typed) -> Result<Typed, Unbound>
-    ensures { answer.Gives result (spec.of_kind place expr.Length kinds.length_kind (spec.settled operand)) }
+    ensures { answer.Gives result
+        (spec.of_kind place expr.Length kinds.length_kind (spec.settled operand)) }
 {
     let (inner, kind) = settle(operand);
     let kind = or_mismatch(place, length_kind(kind))?;

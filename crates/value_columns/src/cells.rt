@@ -178,7 +178,9 @@ impl Cells {
         requires order { from ≤ to }
         requires within { to ≤ length (values_of others.now) }
         ensures kind { kind_of self.new ≡ kind_of self.old }
-        ensures ok { OnOk result (values_of self.new ≡ values_of self.old ++ slice_range (values_of others.now) from to) }
+        ensures ok { OnOk result
+            (values_of self.new
+            ≡ values_of self.old ++ slice_range (values_of others.now) from to) }
         ensures err { OnErr result (values_of self.new ≡ values_of self.old) }
     {
         match self {
@@ -197,7 +199,8 @@ impl Cells {
         requires few { length (values_of self.now) < 2 ^ 32 }
         requires order { from ≤ to }
         requires within { to ≤ length (values_of self.now) }
-        ensures { result ≡ min (row_size (slice_range (values_of self.now) from to)) 18446744073709551615 }
+        ensures { result
+            ≡ min (row_size (slice_range (values_of self.now) from to)) 18446744073709551615 }
     {
         match self {
             Cells::Truths(_) => 16 * (to - from) as u64,
@@ -213,7 +216,8 @@ impl Cells {
         requires few { length (values_of self.now) < 2 ^ 32 }
         requires places { All (λ p. from + p < length (values_of self.now)) places.now }
         ensures kind { IfOk result (λ cells. kind_of cells ≡ kind_of self.now) }
-        ensures values { IfOk result (λ cells. values_of cells ≡ chosen_of (values_of self.now) from places.now) }
+        ensures values { IfOk result
+            (λ cells. values_of cells ≡ chosen_of (values_of self.now) from places.now) }
     {
         match self {
             Cells::Truths(truths) => Ok(Cells::Truths(truths.pick(alloc, from, places)?)),
@@ -229,7 +233,8 @@ impl Cells {
     pub fn push_int(&mut self, number: i64) -> Result<(), NoMemory>
         requires { kind_of self.old ≡ kind.Int }
         ensures kind { kind_of self.new ≡ kind_of self.old }
-        ensures ok { OnOk result (values_of self.new ≡ values_of self.old ++ value.Int number ∷ []) }
+        ensures ok { OnOk result
+            (values_of self.new ≡ values_of self.old ++ value.Int number ∷ []) }
         ensures err { OnErr result (values_of self.new ≡ values_of self.old) }
     {
         match self {
@@ -242,7 +247,8 @@ impl Cells {
     pub fn push_text(&mut self, text: &str) -> Result<(), NoMemory>
         requires { kind_of self.old ≡ kind.Text }
         ensures kind { kind_of self.new ≡ kind_of self.old }
-        ensures ok { OnOk result (values_of self.new ≡ values_of self.old ++ value.Text text.now ∷ []) }
+        ensures ok { OnOk result
+            (values_of self.new ≡ values_of self.old ++ value.Text text.now ∷ []) }
         ensures err { OnErr result (values_of self.new ≡ values_of self.old) }
     {
         match self {
@@ -269,7 +275,8 @@ impl Cells {
     pub fn push_truth(&mut self, truth: bool) -> Result<(), NoMemory>
         requires { kind_of self.old ≡ kind.Bool }
         ensures kind { kind_of self.new ≡ kind_of self.old }
-        ensures ok { OnOk result (values_of self.new ≡ values_of self.old ++ value.Bool truth ∷ []) }
+        ensures ok { OnOk result
+            (values_of self.new ≡ values_of self.old ++ value.Bool truth ∷ []) }
         ensures err { OnErr result (values_of self.new ≡ values_of self.old) }
     {
         match self {
@@ -282,7 +289,8 @@ impl Cells {
     pub fn push_decimal(&mut self, number: Decimal) -> Result<(), NoMemory>
         requires { is_of (kind_of self.old) (value.Dec number) ≡ true }
         ensures kind { kind_of self.new ≡ kind_of self.old }
-        ensures ok { OnOk result (values_of self.new ≡ values_of self.old ++ value.Dec number ∷ []) }
+        ensures ok { OnOk result
+            (values_of self.new ≡ values_of self.old ++ value.Dec number ∷ []) }
         ensures err { OnErr result (values_of self.new ≡ values_of self.old) }
     {
         match self {

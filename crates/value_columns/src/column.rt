@@ -226,7 +226,8 @@ impl Column {
         requires few { length numbers.items < 2 ^ 32 }
         requires mask { length nulls.items ≤ length numbers.items }
         ensures kind { result.kind ≡ kind.Int }
-        ensures values { result.values ≡ map (or_null value.Int) (masked numbers.items nulls.items) }
+        ensures values { result.values
+            ≡ map (or_null value.Int) (masked numbers.items nulls.items) }
     {
         are_ints(&numbers);
         Column {
@@ -240,7 +241,8 @@ impl Column {
         requires few { length truths.items < 2 ^ 32 }
         requires mask { length nulls.items ≤ length truths.items }
         ensures kind { result.kind ≡ kind.Bool }
-        ensures values { result.values ≡ map (or_null value.Bool) (masked truths.items nulls.items) }
+        ensures values { result.values
+            ≡ map (or_null value.Bool) (masked truths.items nulls.items) }
     {
         Column {
             cells: Cells::Truths(Masked::of_parts(truths, nulls)),
@@ -265,7 +267,8 @@ impl Column {
     pub fn size(&self, from: u32, to: u32) -> u64
         requires order { from ≤ to }
         requires within { to ≤ length self.now.values }
-        ensures { result ≡ min (row_size (slice_range self.now.values from to)) 18446744073709551615 }
+        ensures { result
+            ≡ min (row_size (slice_range self.now.values from to)) 18446744073709551615 }
     {
         self.cells.size(from as usize, to as usize)
     }

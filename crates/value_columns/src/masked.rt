@@ -49,7 +49,8 @@ pub(crate) fn part_of(nulls: &[bool], from: usize, to: usize) -> &[bool]
 /// Fills a mask up with `false`, with room for more bits.
 pub(crate) fn pad(nulls: &mut Vec<bool>, len: usize, more: usize) -> Result<(), NoMemory>
     requires { vec_len nulls.old ≤ len }
-    ensures same { nulls.new.items ≡ nulls.old.items ++ replicate (vec_len nulls.new - vec_len nulls.old) false }
+    ensures same { nulls.new.items
+        ≡ nulls.old.items ++ replicate (vec_len nulls.new - vec_len nulls.old) false }
     ensures within { vec_len nulls.new ≤ len }
     ensures ok { OnOk result (vec_len nulls.new ≡ len) }
     ensures room { OnOk result (vec_len nulls.new + more ≤ vec_capacity nulls.new) }
@@ -142,7 +143,8 @@ fn pick_items<T: Copy + Drop>(
     places: &[u32],
 ) -> Result<Vec<T>, NoMemory>
     requires { All (λ p. from + p < length items.now) places.now }
-    ensures { IfOk result (λ new. masked new.items [] ≡ picked (masked items.now []) from places.now) }
+    ensures { IfOk result
+        (λ new. masked new.items [] ≡ picked (masked items.now []) from places.now) }
 {
     let mut new = Vec::with_capacity(alloc, places.len())?;
     for place in places {

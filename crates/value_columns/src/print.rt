@@ -13,7 +13,8 @@ use itoa::Buffer;
 /// Appends the last digits of a number, so many.
 #[tactic(auto, using(crate::proofs::PrintLemmas::starts))]
 fn push_fixed(text: &mut String, number: u128, digits: u8) -> Result<(), NoMemory>
-    ensures ok { OnOk result (string_bytes text.new ≡ string_bytes text.old ++ spec.fixed digits number) }
+    ensures ok { OnOk result
+        (string_bytes text.new ≡ string_bytes text.old ++ spec.fixed digits number) }
     ensures err { OnErr result (StartsWith (string_bytes text.new) (string_bytes text.old)) }
 {
     if digits > 0 {
@@ -37,7 +38,8 @@ fn push_minus(text: &mut String, number: i128) -> Result<(), NoMemory>
 /// Appends a point and the digits after it, where there are any.
 #[tactic(auto, using(crate::proofs::PrintLemmas::starts))]
 fn push_pointed(text: &mut String, number: u128, scale: u8) -> Result<(), NoMemory>
-    ensures ok { OnOk result (string_bytes text.new ≡ string_bytes text.old ++ spec.pointed scale number) }
+    ensures ok { OnOk result
+        (string_bytes text.new ≡ string_bytes text.old ++ spec.pointed scale number) }
     ensures err { OnErr result (StartsWith (string_bytes text.new) (string_bytes text.old)) }
 {
     if scale > 0 {
@@ -60,7 +62,8 @@ fn power(exponent: u8) -> u128
 /// Appends a decimal's digits before and after the point.
 #[tactic(auto, using(crate::proofs::PrintLemmas::starts), unfolding(dfx_value::specs::Print::decimal_text))]
 fn push_decimal(text: &mut String, number: Decimal) -> Result<(), NoMemory>
-    ensures ok { OnOk result (string_bytes text.new ≡ string_bytes text.old ++ spec.decimal_text number) }
+    ensures ok { OnOk result
+        (string_bytes text.new ≡ string_bytes text.old ++ spec.decimal_text number) }
     ensures err { OnErr result (StartsWith (string_bytes text.new) (string_bytes text.old)) }
 {
     let magnitude = number.unscaled.unsigned_abs();
@@ -75,7 +78,8 @@ fn push_decimal(text: &mut String, number: Decimal) -> Result<(), NoMemory>
 /// Appends the printed text of a cell: nothing for NULL. After want of memory the text begins with what it was.
 #[tactic(auto, using(crate::proofs::PrintLemmas::starts))]
 pub fn push_printed(text: &mut String, cell: Cell<'_>) -> Result<(), NoMemory>
-    ensures ok { OnOk result (string_bytes text.new ≡ string_bytes text.old ++ spec.printed (value_of cell.entry)) }
+    ensures ok { OnOk result
+        (string_bytes text.new ≡ string_bytes text.old ++ spec.printed (value_of cell.entry)) }
     ensures err { OnErr result (StartsWith (string_bytes text.new) (string_bytes text.old)) }
 {
     match cell {

@@ -107,7 +107,9 @@ impl Texts {
     pub fn size(&self, from: usize, to: usize) -> u64
         requires order { from ≤ to }
         requires within { to ≤ length self.now }
-        ensures { result ≡ min (row_size (map (or_null value.Text) (slice_range self.now from to))) 18446744073709551615 }
+        ensures { result
+            ≡ min (row_size
+            (map (or_null value.Text) (slice_range self.now from to))) 18446744073709551615 }
     {
         let mut size: u64 = 0;
         for at in from..to {

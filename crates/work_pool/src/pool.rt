@@ -114,7 +114,8 @@ pub fn run_worker<R: Wait, W: Work, G: KernelGate>(
     ensures idle { IsIdle seat.new }
     ensures grows { IsPrefix (seen_of seat.old) (seen_of seat.new) }
     ensures free { loan_of (number_of seat.new) (seen_of seat.new) ≡ None }
-    ensures over { (o : W.Opening) × (opening_of seat.new ≡ Some o) × W.over o (journal_of (seen_of seat.new)) }
+    ensures over { (o : W.Opening) × (opening_of seat.new ≡ Some o)
+        × W.over o (journal_of (seen_of seat.new)) }
 {
     for _ in rt.forever() {
         match claim_once(rt, cell, seat) {
@@ -148,7 +149,8 @@ fn run_each<R: Threads + Wait + Sync, W: Work, G: KernelGate>(
 {
     let run = |at: usize, seat: &mut Seat<W>|
         requires { IsNew cell.now (W.opened (first_value cell.now)) at seat.now }
-        ensures { HasEnded W.over cell.entry.now (W.opened (first_value cell.entry.now)) at seat.exit.now }
+        ensures { HasEnded W.over cell.entry.now
+            (W.opened (first_value cell.entry.now)) at seat.exit.now }
     { run_worker(rt, cell, seat, gate) };
     let workers = seats.len();
     thread::for_each_mut(rt, seats.as_mut_slice(), workers, &run);
