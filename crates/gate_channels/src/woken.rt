@@ -66,6 +66,18 @@ impl Woken {
         }
     }
 
+    /// The task at a place, counted from 0. It stays there.
+    pub fn get(&self, at: u32) -> u32
+        requires inside { at < length self.now.tasks }
+        ensures task { result ≡ slice_index self.now.tasks at }
+    {
+        let _room = self.room;
+        match self.queue.get(at as usize) {
+            Some(task) => *task,
+            None => unreachable!(),
+        }
+    }
+
     /// How many tasks there are.
     pub fn len(&self) -> u32
         ensures length { result ≡ length self.now.tasks }

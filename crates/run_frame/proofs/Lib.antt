@@ -1,7 +1,6 @@
 pub mod Stepped
 pub mod Kept
 pub mod Claims
-pub mod Turning
 pub mod Owners
 pub mod Served
 pub mod Serves

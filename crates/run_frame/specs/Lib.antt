@@ -2,4 +2,3 @@ pub mod Running
 pub mod Answers
 pub mod Leaving
 pub mod Counts
-pub mod Turns

@@ -13,7 +13,6 @@ ghost use Rattle.run_frame.specs.Answers.{entry, IsServed, ServesSend, ServesRec
 
 use crate::finish::leave;
 use crate::frame::RunFrame;
-use crate::queue::woken_at;
 use crate::shape::{can_spill, group_of};
 use core_frame::Place;
 use fair_pool::Exhausted;
@@ -60,7 +59,7 @@ impl<B> RunFrame<B> {
     }
 
     /// The run fails, since memory was wanting for a claim of the woken task at a place of the queue by a worker that
-    /// owns none: the entry is Failed. It passes over the woken tasks behind that place.
+    /// owns none: the entry is Failed.
     pub fn fail_claim(&mut self, worker: u32, at: u32) -> u32
         requires alive { self.old.frame.failure ≡ None }
         requires inside { at < length self.old.frame.queue }
@@ -73,7 +72,7 @@ impl<B> RunFrame<B> {
             ≡ Some self.new.frame }
         ensures shape { self.new.shape ≡ self.old.shape }
     {
-        let task = woken_at(&mut self.woken, at);
+        let task = self.woken.get(at);
         self.failure = Some(Cause::NoMemory);
         task
     }

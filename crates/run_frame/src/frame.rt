@@ -21,7 +21,7 @@ use std::marker::Model;
 /// The groups, the pool, the woken tasks and the places of a run, with the shape of its plan.
 ///
 /// Each call that changes it is one step of the frame. None of them takes time that grows with the number of tasks, but
-/// for the tasks that it wakes, the places in the queue that it passes, and the channels of a task that ends.
+/// for the tasks that it wakes, and the channels of a task that ends.
 #[derive(Drop)]
 pub struct RunFrame<B> {
     pub(crate) shape: Shape,

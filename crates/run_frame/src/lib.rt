@@ -4,7 +4,6 @@
 mod entries;
 mod finish;
 mod frame;
-mod queue;
 mod shape;
 mod start;
 
