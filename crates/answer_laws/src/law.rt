@@ -39,16 +39,19 @@ pub fn feeds_law()
         → IsLinked size past t → IsFlow past full t → Gives full (form t) (whole full t) }
     ensures fed { (f : Doing) → AreOperators f → IsHashing f → (p : Plan) → HasChannels p
         → (size limit : ℕ) (entries : List Entry) (s : State) (full : ℕ → ℕ → List Item)
-        → IsReached (shape p) size limit (start_of f p limit) entries s → AreFull (shape p) s (deal_of f p) full
+        → IsReached (shape p) size limit (start_of f p limit) entries s
+        → AreFull (shape p) s (deal_of f p) full
         → AllFed f full (tops p 1 0) }
     ensures root { (f : Doing) → AreOperators f → IsHashing f → (p : Plan) → HasChannels p
         → (size limit : ℕ) (entries : List Entry) (s : State) (full : ℕ → ℕ → List Item)
-        → IsReached (shape p) size limit (start_of f p limit) entries s → AreFull (shape p) s (deal_of f p) full
+        → IsReached (shape p) size limit (start_of f p limit) entries s
+        → AreFull (shape p) s (deal_of f p) full
         → AllGive full (partitions_of f p 1 0)
         (map (λ (i : ℕ). whole full (tree_in s i)) (numbers (length (partitions_of f p 1 0)))) }
     ensures output { (f : Doing) → AreOperators f → IsHashing f → (p : Plan) → HasChannels p
         → (size limit : ℕ) (entries : List Entry) (s : State) (full : ℕ → ℕ → List Item)
-        → IsReached (shape p) size limit (start_of f p limit) entries s → AreFull (shape p) s (deal_of f p) full
+        → IsReached (shape p) size limit (start_of f p limit) entries s
+        → AreFull (shape p) s (deal_of f p) full
         → (counts_of p).parts ≡ 1 → place_of s.run.frame 0 ≡ Done
         → of_rows (the_task s.tasks 0).output ≡ whole full (tree_in s 0) }
 {}
@@ -59,7 +62,8 @@ pub fn meant_law()
     ensures built { (tables : Tables) (phases : Phases) → LawsOfParts phases
         → (files : List ℕ) (n : ℕ) (q : AQuery) (p : Plan)
         → has_distincts tables q.body ≡ true → erased p ≡ erased (build q files n)
-        → meaning_of tables p ≡ meaning (body_part tables q.body).kinds (body_part tables q.body).items }
+        → meaning_of tables p
+        ≡ meaning (body_part tables q.body).kinds (body_part tables q.body).items }
     ensures clean { (given : List Cells) (items : List Item) → Alike (of_rows given) items
         → faults items ≡ [] }
 {}

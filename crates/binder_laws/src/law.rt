@@ -16,8 +16,10 @@ ghost use Rattle.planned_laws.specs.Wholly.{IsWhollyPlanned};
 pub fn binder_law()
     ensures ranges { (script : AScript) (schemas : List ASchema) (q : AQuery)
         → bound script schemas ≡ Ok q → QueryInRange q }
-    ensures names { (script : AScript) (schemas : List ASchema) (q : AQuery) → bound script schemas ≡ Ok q
+    ensures names { (script : AScript) (schemas : List ASchema) (q : AQuery)
+        → bound script schemas ≡ Ok q
         → length q.names ≡ body_width q.body }
-    ensures planned { (script : AScript) (schemas : List ASchema) (q : AQuery) (files : List ℕ) (n : ℕ) → bound script schemas ≡ Ok q
+    ensures planned { (script : AScript) (schemas : List ASchema) (q : AQuery) (files : List ℕ)
+        (n : ℕ) → bound script schemas ≡ Ok q
         → IsWhollyPlanned q files (enforce_sorting (enforce_distribution (build q files n) n)) n }
 {}

@@ -25,18 +25,26 @@ ghost use Rattle.content_laws.specs.Whole.{past_in, tree_in, AreFull, given_weig
 /// channels, and all of it where it ends (`whole`), and so it is of each tree in it, that is, of what each operator
 /// gave (`fronts`).
 pub fn full_law()
-    ensures exist { (p : Shape) (size limit : ℕ) (start s : State) (entries : List Entry) (deal : ℕ → Deal)
+    ensures exist { (p : Shape) (size limit : ℕ) (start s : State) (entries : List Entry) (deal : ℕ
+        → Deal)
         → IsShape p → IsStart p size limit start → IsReached p size limit start entries s
         → (full : ℕ → ℕ → List Item) × AreFull p s deal full }
-    ensures flow { (p : Shape) (size limit : ℕ) (start s : State) (entries : List Entry) (deal : ℕ → Deal) (full : ℕ → ℕ → List Item)
-        → IsShape p → IsStart p size limit start → IsReached p size limit start entries s → AreSenders p start.tasks deal
+    ensures flow { (p : Shape) (size limit : ℕ) (start s : State) (entries : List Entry) (deal : ℕ
+        → Deal) (full : ℕ → ℕ → List Item)
+        → IsShape p → IsStart p size limit start → IsReached p size limit start entries s
+        → AreSenders p start.tasks deal
         → AreFull p s deal full → (t : ℕ) → IsFlow (past_in s t) full (tree_in s t) }
-    ensures whole { (p : Shape) (size limit : ℕ) (start s : State) (entries : List Entry) (deal : ℕ → Deal) (full : ℕ → ℕ → List Item)
-        → IsShape p → IsStart p size limit start → IsReached p size limit start entries s → AreSenders p start.tasks deal
+    ensures whole { (p : Shape) (size limit : ℕ) (start s : State) (entries : List Entry) (deal : ℕ
+        → Deal) (full : ℕ → ℕ → List Item)
+        → IsShape p → IsStart p size limit start → IsReached p size limit start entries s
+        → AreSenders p start.tasks deal
         → AreFull p s deal full → (t : ℕ) → IsWhole size full (tree_in s t) }
-    ensures fronts { (p : Shape) (size limit : ℕ) (start s : State) (entries : List Entry) (deal : ℕ → Deal) (full : ℕ → ℕ → List Item)
-        → IsShape p → IsStart p size limit start → IsReached p size limit start entries s → AreSenders p start.tasks deal
-        → AreFull p s deal full → (t : ℕ) (x : Tree) → IsSubtree x (tree_in s t) → IsWhole size full x }
+    ensures fronts { (p : Shape) (size limit : ℕ) (start s : State) (entries : List Entry) (deal : ℕ
+        → Deal) (full : ℕ → ℕ → List Item)
+        → IsShape p → IsStart p size limit start → IsReached p size limit start entries s
+        → AreSenders p start.tasks deal
+        → AreFull p s deal full → (t : ℕ) (x : Tree) → IsSubtree x (tree_in s t)
+        → IsWhole size full x }
 {}
 
 /// The channels of a group share what its senders would give: of each weight of items, their whole contents have
@@ -47,20 +55,34 @@ pub fn full_law()
 /// task alone sends to a group, in order, each of its channels has some of what that task would give, in its order
 /// (`ordered`).
 pub fn exchange_law()
-    ensures exchanged { (p : Shape) (size limit : ℕ) (start s : State) (entries : List Entry) (deal : ℕ → Deal) (full : ℕ → ℕ → List Item)
-        → IsShape p → IsStart p size limit start → IsReached p size limit start entries s → AreSenders p start.tasks deal
+    ensures exchanged
+        { (p : Shape) (size limit : ℕ) (start s : State) (entries : List Entry) (deal : ℕ
+        → Deal) (full : ℕ → ℕ → List Item)
+        → IsShape p → IsStart p size limit start → IsReached p size limit start entries s
+        → AreSenders p start.tasks deal
         → AreFull p s deal full
-        → (w : Item → ℕ) (g : ℕ) → sum_below (width p g) (λ c. sum_by w (full g c)) ≡ given_weight p s full w g }
-    ensures shared { (p : Shape) (size limit : ℕ) (start s : State) (entries : List Entry) (deal : ℕ → Deal) (full : ℕ → ℕ → List Item)
-        → IsShape p → IsStart p size limit start → IsReached p size limit start entries s → AreSenders p start.tasks deal
+        → (w : Item → ℕ) (g : ℕ) → sum_below (width p g) (λ c. sum_by w (full g c))
+        ≡ given_weight p s full w g }
+    ensures shared { (p : Shape) (size limit : ℕ) (start s : State) (entries : List Entry) (deal : ℕ
+        → Deal) (full : ℕ → ℕ → List Item)
+        → IsShape p → IsStart p size limit start → IsReached p size limit start entries s
+        → AreSenders p start.tasks deal
         → AreFull p s deal full
-        → (g : ℕ) → SameBag (together (width p g) (full g)) (together (length p.tasks) (given_to p s full g)) }
-    ensures single { (p : Shape) (size limit : ℕ) (start s : State) (entries : List Entry) (deal : ℕ → Deal) (full : ℕ → ℕ → List Item)
-        → IsShape p → IsStart p size limit start → IsReached p size limit start entries s → AreSenders p start.tasks deal
+        → (g : ℕ)
+        → SameBag (together (width p g) (full g))
+        (together (length p.tasks) (given_to p s full g)) }
+    ensures single { (p : Shape) (size limit : ℕ) (start s : State) (entries : List Entry) (deal : ℕ
+        → Deal) (full : ℕ → ℕ → List Item)
+        → IsShape p → IsStart p size limit start → IsReached p size limit start entries s
+        → AreSenders p start.tasks deal
         → AreFull p s deal full
-        → (u g c : ℕ) → IsOnlySender p start.tasks deal u g c → full g c ≡ whole full (tree_in s u) }
-    ensures ordered { (p : Shape) (size limit : ℕ) (start s : State) (entries : List Entry) (deal : ℕ → Deal) (full : ℕ → ℕ → List Item)
-        → IsShape p → IsStart p size limit start → IsReached p size limit start entries s → AreSenders p start.tasks deal
+        → (u g c : ℕ) → IsOnlySender p start.tasks deal u g c
+        → full g c ≡ whole full (tree_in s u) }
+    ensures ordered
+        { (p : Shape) (size limit : ℕ) (start s : State) (entries : List Entry) (deal : ℕ
+        → Deal) (full : ℕ → ℕ → List Item)
+        → IsShape p → IsStart p size limit start → IsReached p size limit start entries s
+        → AreSenders p start.tasks deal
         → AreFull p s deal full
         → (u g : ℕ) → IsLoneSender p start.tasks deal u g → (c : ℕ) → c < width p g
         → IsSubsequence (full g c) (whole full (tree_in s u)) }
@@ -69,23 +91,32 @@ pub fn exchange_law()
 /// What a test of items passes at channels: what passes it at all senders of the group (`all`), and what passes it at the parts
 /// and shares for that channel (`at`). And what a tree gave passes what it would give passes (`gave`).
 pub fn test_law()
-    ensures all { (p : Shape) (size limit : ℕ) (start s : State) (entries : List Entry) (deal : ℕ → Deal) (full : ℕ → ℕ → List Item)
-        → IsShape p → IsStart p size limit start → IsReached p size limit start entries s → AreSenders p start.tasks deal
+    ensures all { (p : Shape) (size limit : ℕ) (start s : State) (entries : List Entry) (deal : ℕ
+        → Deal) (full : ℕ → ℕ → List Item)
+        → IsShape p → IsStart p size limit start → IsReached p size limit start entries s
+        → AreSenders p start.tasks deal
         → AreFull p s deal full
         → (test : Item → Bool) (g : ℕ)
-        → ((u : ℕ) → is_group (task_at p u).sends g ≡ true → AllPass test (whole full (tree_in s u)))
+        → ((u : ℕ) → is_group (task_at p u).sends g ≡ true
+        → AllPass test (whole full (tree_in s u)))
         → (c : ℕ) → c < width p g → AllPass test (full g c) }
-    ensures at { (p : Shape) (size limit : ℕ) (start s : State) (entries : List Entry) (deal : ℕ → Deal) (full : ℕ → ℕ → List Item)
-        → IsShape p → IsStart p size limit start → IsReached p size limit start entries s → AreSenders p start.tasks deal
+    ensures at { (p : Shape) (size limit : ℕ) (start s : State) (entries : List Entry) (deal : ℕ
+        → Deal) (full : ℕ → ℕ → List Item)
+        → IsShape p → IsStart p size limit start → IsReached p size limit start entries s
+        → AreSenders p start.tasks deal
         → AreFull p s deal full
         → (test : Item → Bool) (g c : ℕ) → c < width p g
-        → ((u : ℕ) (split : Split) → is_group (task_at p u).sends g ≡ true → (the_task start.tasks u).split ≡ Some split
+        → ((u : ℕ) (split : Split) → is_group (task_at p u).sends g ≡ true
+        → (the_task start.tasks u).split ≡ Some split
         → SendsOnly test c split (deal u))
         → AllPass test (full g c) }
-    ensures gave { (p : Shape) (size limit : ℕ) (start s : State) (entries : List Entry) (deal : ℕ → Deal) (full : ℕ → ℕ → List Item)
-        → IsShape p → IsStart p size limit start → IsReached p size limit start entries s → AreSenders p start.tasks deal
+    ensures gave { (p : Shape) (size limit : ℕ) (start s : State) (entries : List Entry) (deal : ℕ
+        → Deal) (full : ℕ → ℕ → List Item)
+        → IsShape p → IsStart p size limit start → IsReached p size limit start entries s
+        → AreSenders p start.tasks deal
         → AreFull p s deal full
-        → (test : Item → Bool) (u : ℕ) → AllPass test (whole full (tree_in s u)) → AllPass test (of_rows (gave_of (tree_in s u))) }
+        → (test : Item → Bool) (u : ℕ) → AllPass test (whole full (tree_in s u))
+        → AllPass test (of_rows (gave_of (tree_in s u))) }
 {}
 
 /// Two kinds of senders owe what a sender has to: those whose batches go whole to one channel each, by their number
@@ -94,9 +125,11 @@ pub fn test_law()
 /// send to a channel stands in the order in which it is given (`batches_in_order`, `rows_in_order`). Neither sends
 /// an empty part of a batch that has rows (`batches_have_rows`, `rows_have_rows`).
 pub fn senders_law()
-    ensures batches { (p : Shape) (u g : ℕ) (to : ℕ → ℕ) (home : ℕ) → has (task_at p u).targets home ≡ true → home < width p g
+    ensures batches { (p : Shape) (u g : ℕ) (to : ℕ → ℕ) (home : ℕ)
+        → has (task_at p u).targets home ≡ true → home < width p g
         → IsSender p u g (whole_split to) (home_deal home) }
-    ensures rows { (p : Shape) (u g n : ℕ) (number : Cells → ℕ) → ((row : Cells) → number row < n) → 0 < n → width p g ≡ n
+    ensures rows { (p : Shape) (u g n : ℕ) (number : Cells → ℕ) → ((row : Cells) → number row < n)
+        → 0 < n → width p g ≡ n
         → ((c : ℕ) → has (task_at p u).targets c ≡ false → n ≤ c)
         → IsSender p u g (hash_split number n) (hash_deal number) }
     ensures numbered { (number : Cells → ℕ) (n c : ℕ)
@@ -121,10 +154,12 @@ pub fn bag_law()
 /// that is left in a live one (`left`).
 pub fn received_law()
     ensures took { (p : Shape) (size limit : ℕ) (start s : State) (entries : List Entry)
-        → IsShape p → IsReached p size limit start entries s → ((u : ℕ) → AllHaveRows (handled (past_in s u)))
+        → IsShape p → IsReached p size limit start entries s
+        → ((u : ℕ) → AllHaveRows (handled (past_in s u)))
         → (t g c : ℕ) → receives_at p t g c ≡ true → EachHasRows (took g c (past_in s t)) }
     ensures left { (p : Shape) (size limit : ℕ) (start s : State) (entries : List Entry)
-        → IsShape p → IsReached p size limit start entries s → ((u : ℕ) → AllHaveRows (handled (past_in s u)))
+        → IsShape p → IsReached p size limit start entries s
+        → ((u : ℕ) → AllHaveRows (handled (past_in s u)))
         → (t g c : ℕ) → receives_at p t g c ≡ true → (channel_of s.run.frame g c).live ≡ true
         → EachHasRows (channel_of s.run.frame g c).batches }
 {}

@@ -171,7 +171,9 @@ pub fn advance<R: Read + Drop>(
     ensures begun { IfOk result (λ next. is_begun next.progress ≡ true) }
     ensures sound { IfOk result (λ next. IsSound R.remaining next.progress) }
     ensures gives { (items : List Item) → left_of R.remaining None kinds.now progress ≡ Some items
-        → IfOk result (λ next. GivesRows rows items next.batch.rows (left_of R.remaining None kinds.now next.progress)) }
+        → IfOk result
+        (λ next. GivesRows rows items next.batch.rows
+        (left_of R.remaining None kinds.now next.progress)) }
     ensures falls { IfOk result
         (λ next. length next.batch.rows + left_count
         (left_of R.remaining None kinds.now next.progress)

@@ -87,8 +87,11 @@ fn push_next<R: Read + Drop>(
     ensures counts { result ≡ Ok true
         → Counts (records_left R.remaining reading.new.reader) reading.new.number }
     ensures more { result ≡ Ok true → length builder.new.rows ≡ length builder.old.rows + 1 }
-    ensures takes { result ≡ Ok true → option_map (rows_then builder.new.rows) (items_left R.remaining kinds.now reading.new.number reading.new.reader)
-        ≡ option_map (rows_then builder.old.rows) (items_left R.remaining kinds.now reading.old.number reading.old.reader) }
+    ensures takes { result ≡ Ok true
+        → option_map (rows_then builder.new.rows)
+        (items_left R.remaining kinds.now reading.new.number reading.new.reader)
+        ≡ option_map (rows_then builder.old.rows)
+        (items_left R.remaining kinds.now reading.old.number reading.old.reader) }
 
     ensures rows { result ≡ Ok false → builder.new.rows ≡ builder.old.rows }
     ensures none { result ≡ Ok false
@@ -125,11 +128,19 @@ pub fn read_rows<R: Read + Drop>(
     ensures counts { IfOk result
         (λ given. given.ended ≡ false
         → Counts (records_left R.remaining reading.new.reader) reading.new.number) }
-    ensures gives { (items : List Item) → items_left R.remaining kinds.now reading.old.number reading.old.reader ≡ Some items
-        → IfOk result (λ given. GivesRows rows items given.batch.rows (if given.ended then Some [] else items_left R.remaining kinds.now reading.new.number reading.new.reader)) }
-    ensures falls { IfOk result (λ given. length given.batch.rows + left_count (if given.ended then Some [] else items_left R.remaining kinds.now reading.new.number reading.new.reader)
+    ensures gives { (items : List Item)
+        → items_left R.remaining kinds.now reading.old.number reading.old.reader ≡ Some items
+        → IfOk result
+        (λ given. GivesRows rows items given.batch.rows
+        (if given.ended then Some []
+        else items_left R.remaining kinds.now reading.new.number reading.new.reader)) }
+    ensures falls { IfOk result
+        (λ given. length given.batch.rows + left_count
+        (if given.ended then Some []
+        else items_left R.remaining kinds.now reading.new.number reading.new.reader)
         ≤ left_count (items_left R.remaining kinds.now reading.old.number reading.old.reader)) }
-    ensures refused { (items : List Item) (e : Refusal) → items_left R.remaining kinds.now reading.old.number reading.old.reader ≡ Some items
+    ensures refused { (items : List Item) (e : Refusal)
+        → items_left R.remaining kinds.now reading.old.number reading.old.reader ≡ Some items
         → result ≡ Err e → is_bad e ≡ true → IsRefused rows items e }
     ensures read { result ≢ Err refused.Read }
 {

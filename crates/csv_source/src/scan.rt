@@ -38,11 +38,13 @@ impl<S: Source> Model for CsvScan<S> {
     ghost view = { λ s. record {
       source = s.source;
       kinds = s.kinds.items;
-      left = left_of (cursor_remaining (λ v. Some v.items)) (S.told s.source) s.kinds.items s.progress;
+      left = left_of (cursor_remaining (λ v. Some v.items)) (S.told s.source)
+          s.kinds.items s.progress;
       refused = is_refused s.progress;
     } };
 
-    ghost invariant = { λ s. (are_kinds s.kinds.items ≡ true) × (length s.kinds.items < 2 ^ 32) × IsSound (cursor_remaining (λ v. Some v.items)) s.progress };
+    ghost invariant = { λ s. (are_kinds s.kinds.items ≡ true) × (length s.kinds.items < 2 ^ 32)
+        × IsSound (cursor_remaining (λ v. Some v.items)) s.progress };
 }
 
 impl<S: Source> CsvScan<S> {

@@ -44,12 +44,15 @@ ghost use Rattle.fault_laws.specs.Found.{Found, IsIn, Ends, is_of_fault, IsTold,
 /// give does (`pass`), so it is one of those (`one`). A finished plan of a query meets what the query's body does
 /// (`built`).
 pub fn met_law()
-    ensures pass { (h : Hashing) (f : Doing) (tables : Tables) (n : ℕ) → IsEngineBy h f tables n the_phases
+    ensures pass { (h : Hashing) (f : Doing) (tables : Tables) (n : ℕ)
+        → IsEngineBy h f tables n the_phases
         → (full : ℕ → ℕ → List Item) (test : ItemFault → Bool) (p : Plan)
-        → IsTold tables n p → AllPass test (met_of tables p) → (k s : ℕ) → AllFed f full (tops p k s)
+        → IsTold tables n p → AllPass test (met_of tables p) → (k s : ℕ)
+        → AllFed f full (tops p k s)
         → (parts : List (List Item)) → AllGive full (partitions_of f p k s) parts
         → AllPass test (faults (concat parts)) }
-    ensures one { (h : Hashing) (f : Doing) (tables : Tables) (n : ℕ) → IsEngineBy h f tables n the_phases
+    ensures one { (h : Hashing) (f : Doing) (tables : Tables) (n : ℕ)
+        → IsEngineBy h f tables n the_phases
         → (full : ℕ → ℕ → List Item) (p : Plan)
         → IsTold tables n p → (k s : ℕ) → AllFed f full (tops p k s)
         → (parts : List (List Item)) → AllGive full (partitions_of f p k s) parts
@@ -66,38 +69,50 @@ pub fn met_law()
 /// is a fault that the plan meets (`ends`), and that the query of a finished plan does (`meant`). Where the faults of
 /// the tables' files name them, a source in a cause is the file that the fault names (`named`).
 pub fn cause_law()
-    ensures trees { (h : Hashing) (f : Doing) (tables : Tables) (n : ℕ) → IsEngineBy h f tables n the_phases
+    ensures trees { (h : Hashing) (f : Doing) (tables : Tables) (n : ℕ)
+        → IsEngineBy h f tables n the_phases
         → (test : ItemFault → Bool)
         → (p : Plan) → HasChannels p → IsToldTop tables n p → AllPass test (met_of tables p)
         → (size limit : ℕ) (entries : List Entry) (s : State) (full : ℕ → ℕ → List Item)
-        → IsReached (shape p) size limit (start_of f p limit) entries s → AreFull (shape p) s (deal_of f p) full
+        → IsReached (shape p) size limit (start_of f p limit) entries s
+        → AreFull (shape p) s (deal_of f p) full
         → (u : ℕ) → Meets test full (form (tree_in s u)) }
-    ensures fails { (met : ItemFault → Bool) (named : ℕ → ItemFault → Bool) (size : ℕ) (past : Past (List Cells))
+    ensures fails { (met : ItemFault → Bool) (named : ℕ → ItemFault → Bool) (size : ℕ)
+        (past : Past (List Cells))
         (full : ℕ → ℕ → List Item) (t : Tree)
         → IsLinked size past t → IsFlow past full t → Meets met full (form t) → LeavesPass named t
-        → (cause : Cause) (after : Reply (List Cells) → Tree) → poll size t ≡ Asks (Fail cause) after
+        → (cause : Cause) (after : Reply (List Cells) → Tree)
+        → poll size t ≡ Asks (Fail cause) after
         → Found met named cause }
-    ensures ends { (h : Hashing) (f : Doing) (tables : Tables) (n : ℕ) → IsEngineBy h f tables n the_phases
+    ensures ends { (h : Hashing) (f : Doing) (tables : Tables) (n : ℕ)
+        → IsEngineBy h f tables n the_phases
         → (p : Plan) → HasChannels p → IsToldTop tables n p
         → (size limit steps : ℕ) (entries : List Entry) (s next : State) (e : Entry) (cause : Cause)
         → state_replay (shape p) size steps (Some (start_of f p limit)) entries ≡ Some s
         → state_step (shape p) size steps s e ≡ Some next
-        → e.kind ≡ Failed cause → is_of_fault cause ≡ true → Ends (met_of tables p) (files_of f p 0) cause }
-    ensures meant { (h : Hashing) (f : Doing) (tables : Tables) (n : ℕ) → IsEngineBy h f tables n the_phases
-        → (q : AQuery) → has_distincts tables q.body ≡ true → (files : List ℕ) → is_known tables files q.body ≡ true
+        → e.kind ≡ Failed cause → is_of_fault cause ≡ true
+        → Ends (met_of tables p) (files_of f p 0) cause }
+    ensures meant { (h : Hashing) (f : Doing) (tables : Tables) (n : ℕ)
+        → IsEngineBy h f tables n the_phases
+        → (q : AQuery) → has_distincts tables q.body ≡ true → (files : List ℕ)
+        → is_known tables files q.body ≡ true
         → 0 < n
         → (p : Plan) → IsFinished (build q files n) q.order n p → everywhere needs_in_range p ≡ true
         → (size limit steps : ℕ) (entries : List Entry) (s next : State) (e : Entry) (cause : Cause)
         → state_replay (shape p) size steps (Some (start_of f p limit)) entries ≡ Some s
-        → state_step (shape p) size steps s e ≡ Some next → e.kind ≡ Failed cause → is_of_fault cause ≡ true
+        → state_step (shape p) size steps s e ≡ Some next → e.kind ≡ Failed cause
+        → is_of_fault cause ≡ true
         → Ends (all_faults tables q.body) (files_of f p 0) cause }
-    ensures named { (h : Hashing) (f : Doing) (tables : Tables) (n : ℕ) → IsEngineBy h f tables n the_phases
+    ensures named { (h : Hashing) (f : Doing) (tables : Tables) (n : ℕ)
+        → IsEngineBy h f tables n the_phases
         → FaultsAreNamed tables
-        → (q : AQuery) → has_distincts tables q.body ≡ true → (files : List ℕ) → is_known tables files q.body ≡ true
+        → (q : AQuery) → has_distincts tables q.body ≡ true → (files : List ℕ)
+        → is_known tables files q.body ≡ true
         → 0 < n
         → (p : Plan) → IsFinished (build q files n) q.order n p → everywhere needs_in_range p ≡ true
         → (size limit steps : ℕ) (entries : List Entry) (s next : State) (e : Entry) (cause : Cause)
         → state_replay (shape p) size steps (Some (start_of f p limit)) entries ≡ Some s
-        → state_step (shape p) size steps s e ≡ Some next → e.kind ≡ Failed cause → is_of_fault cause ≡ true
+        → state_step (shape p) size steps s e ≡ Some next → e.kind ≡ Failed cause
+        → is_of_fault cause ≡ true
         → EndsAt (all_faults tables q.body) (places_of p) cause }
 {}

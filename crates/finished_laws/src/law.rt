@@ -42,21 +42,26 @@ ghost use Rattle.finished_laws.specs.Engine.{IsEngineBy};
 /// Over tables that the query's body fits, a finished plan of a query without a limit is sound (`sound`), and else it
 /// is that limit of a sound plan of one partition that declares the query's order (`limited`).
 pub fn finished_law()
-    ensures channels { (plain p : APlan) (order : List Key) (n : ℕ) → 0 < n → IsFinished plain order n p
+    ensures channels { (plain p : APlan) (order : List Key) (n : ℕ) → 0 < n
+        → IsFinished plain order n p
         → HasChannels p }
     ensures parts { (n : ℕ) (p : APlan) → everywhere (spread_needs n) p ≡ true
         → (counts_of p).parts ≡ partitions p }
     ensures single { (plain p : APlan) (order : List Key) (n : ℕ) → IsFinished plain order n p
         → (counts_of p).parts ≡ 1 }
     ensures sound { (phases : Phases) → LawsOfParts phases → (tables : Tables) (q : AQuery)
-        → has_distincts tables q.body ≡ true → (files : List ℕ) → is_known tables files q.body ≡ true → (n : ℕ) → 0 < n
+        → has_distincts tables q.body ≡ true → (files : List ℕ) → is_known tables files q.body
+        ≡ true → (n : ℕ) → 0 < n
         → is_some q.limit || nat_lt 0 q.offset ≡ false
-        → (p : APlan) → IsFinished (build q files n) q.order n p → everywhere needs_in_range p ≡ true
+        → (p : APlan) → IsFinished (build q files n) q.order n p
+        → everywhere needs_in_range p ≡ true
         → is_sound tables n p ≡ true }
     ensures limited { (phases : Phases) → LawsOfParts phases → (tables : Tables) (q : AQuery)
-        → has_distincts tables q.body ≡ true → (files : List ℕ) → is_known tables files q.body ≡ true → (n : ℕ) → 0 < n
+        → has_distincts tables q.body ≡ true → (files : List ℕ) → is_known tables files q.body
+        ≡ true → (n : ℕ) → 0 < n
         → is_some q.limit || nat_lt 0 q.offset ≡ true
-        → (p : APlan) → IsFinished (build q files n) q.order n p → everywhere needs_in_range p ≡ true
+        → (p : APlan) → IsFinished (build q files n) q.order n p
+        → everywhere needs_in_range p ≡ true
         → (r : APlan) × (p ≡ ALimit r q.offset q.limit) × (is_sound tables n r ≡ true)
         × (satisfies_order (props r) q.order ≡ true) × ((counts_of r).parts ≡ 1) }
 {}
@@ -64,7 +69,8 @@ pub fn finished_law()
 /// What a sound plan declares stands of the rows that its partitions would give (`kept`). That gives groups and joins
 /// what they need (`delivers`), so that a sound plan can be told (`told`).
 pub fn declared_law()
-    ensures kept { (h : Hashing) (f : Doing) → IsChannelOf h f → (tables : Tables) (n : ℕ) (phases : Phases)
+    ensures kept { (h : Hashing) (f : Doing) → IsChannelOf h f
+        → (tables : Tables) (n : ℕ) (phases : Phases)
         → IsAnswering f tables (on_properties tables n) phases → AreGroups phases → IsOrdering f
         → IsKept f (IsAsDeclared h tables n) }
     ensures delivers { (h : Hashing) → IsHash h → (tables : Tables) (n : ℕ)
@@ -95,11 +101,14 @@ pub fn planned_answer_law()
         → IsEngineBy h f tables n phases
         → (p : APlan) → HasChannels p → (counts_of p).parts ≡ 1 → is_sound tables n p ≡ true
         → is_whole (meaning_of tables p) ≡ true
-        → (s : State) → IsFinishedRun f p s → Alike (of_rows (the_task s.tasks 0).output) (meant tables p) }
+        → (s : State) → IsFinishedRun f p s
+        → Alike (of_rows (the_task s.tasks 0).output) (meant tables p) }
     ensures allowed { (h : Hashing) (f : Doing) (tables : Tables) (n : ℕ) (phases : Phases)
         → IsEngineBy h f tables n phases
-        → (q : AQuery) → has_distincts tables q.body ≡ true → (files : List ℕ) → is_known tables files q.body ≡ true
+        → (q : AQuery) → has_distincts tables q.body ≡ true → (files : List ℕ)
+        → is_known tables files q.body ≡ true
         → 0 < n
-        → (p : APlan) → IsFinished (build q files n) q.order n p → everywhere needs_in_range p ≡ true
+        → (p : APlan) → IsFinished (build q files n) q.order n p
+        → everywhere needs_in_range p ≡ true
         → (s : State) → IsFinishedRun f p s → Allowed q tables (the_task s.tasks 0).output }
 {}

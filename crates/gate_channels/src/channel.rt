@@ -23,7 +23,12 @@ impl<B> Model for Channel<B> {
 
     ghost Value = { Channel B };
 
-    ghost view = { λ c. record { batches = c.batches.items; live = c.live; unended = c.unended; waiting = c.waiting } };
+    ghost view = { λ c. record {
+      batches = c.batches.items;
+      live = c.live;
+      unended = c.unended;
+      waiting = c.waiting;
+    } };
 }
 
 impl<B> Channel<B> {

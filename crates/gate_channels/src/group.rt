@@ -51,7 +51,10 @@ impl<B> Model for Group<B> {
 
     ghost Value = { Grouped B };
 
-    ghost view = { λ g. record { gate = record { channels = g.channels.items; queue = g.queue.tasks }; room = g.queue.room } };
+    ghost view = { λ g. record {
+      gate = record { channels = g.channels.items; queue = g.queue.tasks };
+      room = g.queue.room;
+    } };
 
     ghost invariant = { λ g. AreBelow g.channels.items g.queue.room };
 }
@@ -100,7 +103,8 @@ impl<B> Group<B> {
         requires idle { count task self.old.gate.queue ≡ 0 }
         requires apart { WaitApart self.old woken.old }
 
-        ensures answer { Sends self.old.gate task channel batch result self.new.gate woken.old.tasks woken.new.tasks }
+        ensures answer { Sends self.old.gate task channel batch
+            result self.new.gate woken.old.tasks woken.new.tasks }
         ensures size { KeepsSize self.old self.new woken.old woken.new }
     {
         let at = channel as usize;
@@ -128,7 +132,8 @@ impl<B> Group<B> {
         requires task { task < self.old.room }
         requires apart { WaitApart self.old woken.old }
 
-        ensures answer { Receives self.old.gate task channel result self.new.gate woken.old.tasks woken.new.tasks }
+        ensures answer { Receives self.old.gate task channel
+            result self.new.gate woken.old.tasks woken.new.tasks }
         ensures size { KeepsSize self.old self.new woken.old woken.new }
     {
         let (answer, last) = self.channels[channel as usize].take(task);

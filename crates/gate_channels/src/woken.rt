@@ -26,7 +26,8 @@ impl Model for Woken {
 
     ghost view = { λ w. record { tasks = w.queue.items; room = w.room } };
 
-    ghost invariant = { λ w. IsDistinctBelow w.queue.items w.room × (w.room ≤ deque_capacity w.queue) };
+    ghost invariant = { λ w. IsDistinctBelow w.queue.items w.room
+        × (w.room ≤ deque_capacity w.queue) };
 }
 
 impl Woken {

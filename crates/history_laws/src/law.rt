@@ -24,11 +24,14 @@ ghost use Rattle.history_laws.specs.Taken.{RunFits};
 /// steps without histories (`frames`).
 pub fn histories_law<B>()
     ensures contents { (p : Shape) (limit : ℕ) (steps : List (Entry × Need B)) (r : Run B)
-        → IsShape p → AreOwn p steps → run_replay p (Some (begun p limit)) steps ≡ Some r → IsTold p r.frame r.pasts }
+        → IsShape p → AreOwn p steps → run_replay p (Some (begun p limit)) steps ≡ Some r
+        → IsTold p r.frame r.pasts }
     ensures reserved { (p : Shape) (limit : ℕ) (steps : List (Entry × Need B)) (r : Run B)
-        → IsShape p → HasOwners p → AreOwn p steps → run_replay p (Some (begun p limit)) steps ≡ Some r → IsHeld p r.frame r.pasts }
+        → IsShape p → HasOwners p → AreOwn p steps → run_replay p (Some (begun p limit)) steps
+        ≡ Some r → IsHeld p r.frame r.pasts }
     ensures frames { (p : Shape) (limit : ℕ) (steps : List (Entry × Need B))
-        → frame_in (run_replay p (Some (begun p limit)) steps) ≡ frame_replay p (Some (opening p limit)) steps }
+        → frame_in (run_replay p (Some (begun p limit)) steps)
+        ≡ frame_replay p (Some (opening p limit)) steps }
 {}
 
 /// At the opening of a plan's run the histories tell what channels hold.
@@ -39,7 +42,8 @@ pub fn recorded_opening<B>()
 /// And after each step they do, whatever the need is, as long as it is the task's own.
 pub fn recorded_step<B>()
     ensures { (p : Shape) (r new : Run B) (e : Entry) (need : Need B)
-        → IsShape p → IsRecorded p r → IsOwn p e.task need → run_step p r e need ≡ Some new → IsRecorded p new }
+        → IsShape p → IsRecorded p r → IsOwn p e.task need → run_step p r e need ≡ Some new
+        → IsRecorded p new }
 {}
 
 /// At the opening of a plan's run each consumer holds what its task's history tells.
@@ -51,7 +55,8 @@ pub fn held_opening<B>()
 /// And after each step it does, where each consumer is one task's.
 pub fn held_step<B>()
     ensures { (p : Shape) (r new : Run B) (e : Entry) (need : Need B)
-        → IsShape p → HasOwners p → IsRecorded p r → IsOwn p e.task need → run_step p r e need ≡ Some new
+        → IsShape p → HasOwners p → IsRecorded p r → IsOwn p e.task need
+        → run_step p r e need ≡ Some new
         → IsHeld p r.frame r.pasts → IsHeld p new.frame new.pasts }
 {}
 
@@ -62,9 +67,11 @@ pub fn carried_runs_law<A, B>()
     ensures begun { (m : A → B) (p : Shape) (limit : ℕ)
         → map_run m (begun p limit) ≡ begun p limit }
     ensures reply { (m : A → B) (p : Shape) (f : Frame A) (t : ℕ) (k : EntryKind) (need : Need A)
-        → reply_of p (map_frame m f) t k (map_need m need) ≡ option_map (map_reply m) (reply_of p f t k need) }
+        → reply_of p (map_frame m f) t k (map_need m need)
+        ≡ option_map (map_reply m) (reply_of p f t k need) }
     ensures step { (m : A → B) (p : Shape) (r : Run A) (e : Entry) (need : Need A)
-        → run_step p (map_run m r) e (map_need m need) ≡ option_map (map_run m) (run_step p r e need) }
+        → run_step p (map_run m r) e (map_need m need)
+        ≡ option_map (map_run m) (run_step p r e need) }
     ensures replay { (m : A → B) (p : Shape) (o : Option (Run A)) (steps : List (Entry × Need A))
         → run_replay p (option_map (map_run m) o) (map (map_step m) steps)
         ≡ option_map (map_run m) (run_replay p o steps) }
@@ -77,9 +84,11 @@ pub fn carried_runs_law<A, B>()
 /// The lemmas `Rattle.history_laws.proofs.Taken.{run_step_fits, run_fits}` say it of any property, not only of tests.
 pub fn taken_law<B>()
     ensures step { (test : ℕ → ℕ → B → Bool) (p : Shape) (r new : Run B) (e : Entry) (need : Need B)
-        → RunFits (Passes test) r → SendFits p (Passes test) e.task need → run_step p r e need ≡ Some new
+        → RunFits (Passes test) r → SendFits p (Passes test) e.task need
+        → run_step p r e need ≡ Some new
         → RunFits (Passes test) new }
-    ensures runs { (test : ℕ → ℕ → B → Bool) (p : Shape) (limit : ℕ) (steps : List (Entry × Need B)) (r : Run B)
+    ensures runs { (test : ℕ → ℕ → B → Bool) (p : Shape) (limit : ℕ) (steps : List (Entry × Need B))
+        (r : Run B)
         → SendsFit p (Passes test) steps → run_replay p (Some (begun p limit)) steps ≡ Some r
         → RunFits (Passes test) r }
 {}

@@ -36,48 +36,63 @@ ghost use Rattle.join_laws.specs.States.{Join, op_of, JoinState, at_start, accep
 /// Each row of a partition is one that a join's node may give (`rows`, `node`), and of the kinds of
 /// its columns (`kinds`).
 pub fn join_law()
-    ensures one { (kind : Kept) (left_width right_width : ℕ) (keys : List (ℕ × ℕ)) (rest : Option Expr)
+    ensures one
+        { (kind : Kept) (left_width right_width : ℕ) (keys : List (ℕ × ℕ)) (rest : Option Expr)
         (ls rs : List Item)
         → SameBag (join_items kind left_width right_width keys rest ls rs)
         (joined kind left_width right_width keys rest ls rs) }
-    ensures whole { (kind : Kept) (left_width right_width : ℕ) (keys : List (ℕ × ℕ)) (rest : Option Expr)
+    ensures whole
+        { (kind : Kept) (left_width right_width : ℕ) (keys : List (ℕ × ℕ)) (rest : Option Expr)
         (amount : Told → List Cells → ℕ) (consumer : Option ℕ) (t : Told) (inputs : ℕ → List Item)
         → (hash_join kind left_width right_width keys rest amount consumer).whole t inputs
         ≡ join_items kind left_width right_width keys rest (inputs 0) (inputs 1) }
-    ensures parts { (kind : Kept) (left_width right_width : ℕ) (keys : List (ℕ × ℕ)) (rest : Option Expr)
+    ensures parts
+        { (kind : Kept) (left_width right_width : ℕ) (keys : List (ℕ × ℕ)) (rest : Option Expr)
         (ls rs : List Item) (n : ℕ) (lefts rights : ℕ → List Item)
-        → Alike (together n lefts) ls → Alike (together n rights) rs → AreMatched keys n lefts rights
+        → Alike (together n lefts) ls → Alike (together n rights) rs
+        → AreMatched keys n lefts rights
         → Alike (joined_parts kind left_width right_width keys rest n lefts rights)
         (joined kind left_width right_width keys rest ls rs) }
-    ensures same { (kind : Kept) (left_width right_width : ℕ) (keys : List (ℕ × ℕ)) (rest : Option Expr)
+    ensures same
+        { (kind : Kept) (left_width right_width : ℕ) (keys : List (ℕ × ℕ)) (rest : Option Expr)
         (ls rs : List Item) (n : ℕ) (lefts rights : ℕ → List Item)
-        → SameBag (together n lefts) ls → SameBag (together n rights) rs → AreMatched keys n lefts rights
+        → SameBag (together n lefts) ls → SameBag (together n rights) rs
+        → AreMatched keys n lefts rights
         → SameBag (joined_parts kind left_width right_width keys rest n lefts rights)
         (joined kind left_width right_width keys rest ls rs) }
-    ensures faults { (kind : Kept) (left_width right_width : ℕ) (keys : List (ℕ × ℕ)) (rest : Option Expr)
+    ensures faults
+        { (kind : Kept) (left_width right_width : ℕ) (keys : List (ℕ × ℕ)) (rest : Option Expr)
         (ls rs : List Item) (n : ℕ) (lefts rights : ℕ → List Item) (test : ItemFault → Bool)
-        → Alike (together n lefts) ls → Alike (together n rights) rs → AreMatched keys n lefts rights
+        → Alike (together n lefts) ls → Alike (together n rights) rs
+        → AreMatched keys n lefts rights
         → AllPass test (faults (together n lefts)) → AllPass test (faults (together n rights))
         → AllPass test (faults (joined kind left_width right_width keys rest ls rs))
-        → AllPass test (faults (joined_parts kind left_width right_width keys rest n lefts rights)) }
+        → AllPass test
+        (faults (joined_parts kind left_width right_width keys rest n lefts rights)) }
     ensures placed { (h : Hashing) (keys : List (ℕ × ℕ)) (n : ℕ) (lefts rights : ℕ → List Item)
         → IsHash h
-        → Places h (left_keys keys) n (row_parts n lefts) → Places h (right_keys keys) n (row_parts n rights)
+        → Places h (left_keys keys) n (row_parts n lefts)
+        → Places h (right_keys keys) n (row_parts n rights)
         → AreMatched keys n lefts rights }
     ensures single { (keys : List (ℕ × ℕ)) (lefts rights : ℕ → List Item)
         → AreMatched keys 1 lefts rights }
-    ensures rows { (kind : Kept) (left_width right_width : ℕ) (keys : List (ℕ × ℕ)) (rest : Option Expr)
+    ensures rows
+        { (kind : Kept) (left_width right_width : ℕ) (keys : List (ℕ × ℕ)) (rest : Option Expr)
         (n : ℕ) (lefts rights : ℕ → List Item)
         → Joined (JoinRow kind keys left_width right_width) (row_parts n lefts) (row_parts n rights)
         (row_parts n (λ i. join_items kind left_width right_width keys rest (lefts i) (rights i))) }
-    ensures node { (h : Hashing) (left right : Said) (kind : Kept) (keys : List (ℕ × ℕ)) (rest : Option Expr)
+    ensures node
+        { (h : Hashing) (left right : Said) (kind : Kept) (keys : List (ℕ × ℕ)) (rest : Option Expr)
         (n : ℕ) (lefts rights : ℕ → List Item)
-        → NodeGives h (Node.HashJoin kind (left, row_parts n lefts) (right, row_parts n rights) keys rest)
+        → NodeGives h
+        (Node.HashJoin kind (left, row_parts n lefts) (right, row_parts n rights) keys rest)
         (row_parts n (λ i. join_items kind left.width right.width keys rest (lefts i) (rights i))) }
-    ensures kinds { (kind : Kept) (left right : List Kind) (keys : List (ℕ × ℕ)) (rest : Option Expr)
+    ensures kinds
+        { (kind : Kept) (left right : List Kind) (keys : List (ℕ × ℕ)) (rest : Option Expr)
         (ls rs : List Item)
         → AllPass (are_of left) (rows ls) → AllPass (are_of right) (rows rs)
-        → AllPass (are_of (left ++ right)) (rows (join_items kind (length left) (length right) keys rest ls rs)) }
+        → AllPass (are_of (left ++ right))
+        (rows (join_items kind (length left) (length right) keys rest ls rs)) }
 {}
 
 /// How code joins: a table from the keys of left rows to their places tells the left rows that
@@ -89,15 +104,18 @@ pub fn table_law()
     ensures found { (keys : List (ℕ × ℕ)) (ls : List Cells) (r : Cells)
         → matches keys ls r ≡ places_of (λ l. keys_match keys l r) 0 ls }
     ensures pairs { (keys : List (ℕ × ℕ)) (rest : Option Expr) (ls : List Cells) (r : Cells)
-        → flat_map (λ at. residual rest (row_at ls at ++ r)) (matches keys ls r) ≡ right_pairs keys rest ls r }
+        → flat_map (λ at. residual rest (row_at ls at ++ r)) (matches keys ls r)
+        ≡ right_pairs keys rest ls r }
     ensures marks { (keys : List (ℕ × ℕ)) (rest : Option Expr) (ls rs : List Cells)
         → marks_after keys rest ls rs ≡ map (λ l. not (is_empty (left_pairs keys rest rs l))) ls }
     ensures lefts { (keys : List (ℕ × ℕ)) (rest : Option Expr) (width : ℕ) (ls rs : List Cells)
         → unmarked width ls (marks_after keys rest ls rs) ≡ left_alone keys rest width ls rs }
     ensures within { (keys : List (ℕ × ℕ)) (rest : Option Expr) (ls rs : List Cells) (r : Cells)
-        → All (λ at. at < length ls) (matches keys ls r) × (length (marks_after keys rest ls rs) ≡ length ls) }
+        → All (λ at. at < length ls) (matches keys ls r)
+        × (length (marks_after keys rest ls rs) ≡ length ls) }
     ensures grown { (columns : List ℕ) (t : KeyPlaces) (at : ℕ) (ls more : List Cells)
-        → entered columns t at (ls ++ more) ≡ entered columns (entered columns t at ls) (at + length ls) more }
+        → entered columns t at (ls ++ more)
+        ≡ entered columns (entered columns t at ls) (at + length ls) more }
 {}
 
 /// What an operator of a hash join may hold, call by call. Before it is told anything it stands for
@@ -107,7 +125,8 @@ pub fn table_law()
 /// and for more given items after some that wait were given (`give`).
 pub fn state_law()
     ensures start { (j : Join) (t : Told)
-        → t.taken 0 ≡ [] → t.taken 1 ≡ [] → t.ended 0 ≡ false → t.ended 1 ≡ false → StandsFor j at_start t 0 }
+        → t.taken 0 ≡ [] → t.taken 1 ≡ [] → t.ended 0 ≡ false → t.ended 1 ≡ false
+        → StandsFor j at_start t 0 }
     ensures wanted { (j : Join) (s : JoinState) (t : Told) (n : ℕ)
         → StandsFor j s t n → (if s.left_over then 1 else 0) ≡ (op_of j).wanted t }
     ensures complete { (j : Join) (s : JoinState) (t : Told) (n : ℕ)

@@ -8,7 +8,9 @@ ghost use Rattle.key_table.specs.Entries.{upsert, find};
 /// After an `upsert` its key, and each that is the same, finds the changed entry; every other key
 /// finds what it found.
 pub fn entries_law<S>()
-    ensures upserted { (entries : List (List Value × S)) (key k : List Value) (start : S) (f : S → S)
+    ensures upserted { (entries : List (List Value × S)) (key k : List Value) (start : S) (f : S
+        → S)
         → find (upsert entries key start f) k
-        ≡ (if same_keys key k then Some (f (unwrap_or (find entries k) start)) else find entries k) }
+        ≡ (if same_keys key k then Some (f (unwrap_or (find entries k) start))
+        else find entries k) }
 {}

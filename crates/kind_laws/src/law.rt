@@ -13,9 +13,11 @@ ghost use Rattle.kind_laws.specs.Tables.{TablesHave, FaultsAreNamed, table_kinds
 /// Over tables of the scans' kinds a well-kinded body gives rows of its kinds (`rows`), and so does every node
 /// of it (`nodes`).
 pub fn kinds_law()
-    ensures rows { (kinds : List (List AKind)) (tables : Tables) (q : ABody) → TablesHave kinds tables
+    ensures rows { (kinds : List (List AKind)) (tables : Tables) (q : ABody)
+        → TablesHave kinds tables
         → is_well_kinded kinds q ≡ true → gives_kinds tables q ≡ true }
-    ensures nodes { (kinds : List (List AKind)) (tables : Tables) (q : ABody) → TablesHave kinds tables
+    ensures nodes { (kinds : List (List AKind)) (tables : Tables) (q : ABody)
+        → TablesHave kinds tables
         → is_well_kinded kinds q ≡ true → everywhere_kinded tables q ≡ true }
 {}
 

@@ -16,7 +16,8 @@ ghost use Rattle.finished_laws.specs.Known.{is_known};
 /// files and with rows of its columns, and what is grouped is of its kinds (`known`). So it is over the tables that
 /// CSV files mean (`csv_distincts`, `csv_known`).
 pub fn known_law()
-    ensures distincts { (kinds : List (List AKind)) (tables : Tables) (q : ABody) → TablesHave kinds tables
+    ensures distincts { (kinds : List (List AKind)) (tables : Tables) (q : ABody)
+        → TablesHave kinds tables
         → is_well_kinded kinds q ≡ true → has_distincts tables q ≡ true }
     ensures known { (kinds : List (List AKind)) (tables : Tables) (files : List ℕ) (q : ABody)
         → TablesHave kinds tables → files ≡ map length tables
@@ -24,5 +25,6 @@ pub fn known_law()
     ensures csv_distincts { (all : Contents) (ts : List CsvTable) (q : ABody)
         → is_well_kinded (table_kinds ts) q ≡ true → has_distincts (tables_from all 0 ts) q ≡ true }
     ensures csv_known { (all : Contents) (ts : List CsvTable) (q : ABody)
-        → is_well_kinded (table_kinds ts) q ≡ true → is_known (tables_from all 0 ts) (file_counts ts) q ≡ true }
+        → is_well_kinded (table_kinds ts) q ≡ true
+        → is_known (tables_from all 0 ts) (file_counts ts) q ≡ true }
 {}

@@ -32,14 +32,19 @@ pub fn node_laws()
     ensures sort { (h : Hashing) (keys : List Key) (d : Said) (ins outs : List (List Row))
         → Arranged keys ins outs → Meets h d.props ins → Meets h (sorted keys d).props outs }
     ensures hash { (h : Hashing) (cs : List ℕ) (n : ℕ) (d : Said) (ins outs : List (List Row))
-        → Exchanged h cs n ins outs → Meets h d.props ins → Meets h (repartitioned (ByHash cs n) d).props outs }
+        → Exchanged h cs n ins outs → Meets h d.props ins
+        → Meets h (repartitioned (ByHash cs n) d).props outs }
     ensures union { (h : Hashing) (ds : List Said) (ps : List (List (List Row)))
         → AllMeet h ds ps → Meets h (united ds).props (united_parts ps) }
-    ensures left { (h : Hashing) (keys : List (ℕ × ℕ)) (d e : Said) (lefts rights outs : List (List Row))
-        → Sides h keys d lefts → Meets h d.props lefts → Joined (LeftRow keys e.width) lefts rights outs
+    ensures left
+        { (h : Hashing) (keys : List (ℕ × ℕ)) (d e : Said) (lefts rights outs : List (List Row))
+        → Sides h keys d lefts → Meets h d.props lefts
+        → Joined (LeftRow keys e.width) lefts rights outs
         → Meets h (hash_joined LeftJoin keys d e).props outs }
-    ensures inner { (h : Hashing) (keys : List (ℕ × ℕ)) (d e : Said) (lefts rights outs : List (List Row))
-        → Sides h keys d lefts → Meets h d.props lefts → Meets h e.props rights → Joined (InnerRow keys) lefts rights outs
+    ensures inner
+        { (h : Hashing) (keys : List (ℕ × ℕ)) (d e : Said) (lefts rights outs : List (List Row))
+        → Sides h keys d lefts → Meets h d.props lefts → Meets h e.props rights
+        → Joined (InnerRow keys) lefts rights outs
         → Meets h (hash_joined InnerJoin keys d e).props outs }
     ensures limit { (h : Hashing) (d : Said) (ins outs : List (List Row))
         → Stretches ins outs → Meets h d.props ins → Meets h d.props outs }
@@ -47,22 +52,35 @@ pub fn node_laws()
         → Begun whole outs → Meets h d.props whole → Meets h d.props outs }
     ensures coalesce { (h : Hashing) (d : Said) (ins outs : List (List Row))
         → Dealt 1 ins outs → Meets h d.props ins → Meets h (merged [] d).props outs }
-    ensures merge { (h : Hashing) (keys : List Key) (d : Said) (ins : List (List Row)) (out : List Row)
-        → AllInOrder keys ins → Merges keys ins out → Meets h d.props ins → Meets h (merged keys d).props (out ∷ []) }
-    ensures in_order { (h : Hashing) (keys : List Key) (d : Said) (ins : List (List Row)) (out : List Row)
-        → Each (HoldsIn ins) out → InOrder keys out → Meets h d.props ins → Meets h (merged keys d).props (out ∷ []) }
+    ensures merge
+        { (h : Hashing) (keys : List Key) (d : Said) (ins : List (List Row)) (out : List Row)
+        → AllInOrder keys ins → Merges keys ins out → Meets h d.props ins
+        → Meets h (merged keys d).props (out ∷ []) }
+    ensures in_order
+        { (h : Hashing) (keys : List Key) (d : Said) (ins : List (List Row)) (out : List Row)
+        → Each (HoldsIn ins) out → InOrder keys out → Meets h d.props ins
+        → Meets h (merged keys d).props (out ∷ []) }
     ensures deal { (h : Hashing) (n : ℕ) (d : Said) (ins outs : List (List Row))
-        → Dealt n ins outs → Meets h d.props ins → Meets h (repartitioned (ByTurns n) d).props outs }
-    ensures partial_group { (h : Hashing) (width : ℕ) (keys : List ℕ) (d : Said) (ins outs : List (List Row))
-        → PartGroups keys ins outs → Meets h d.props ins → Meets h (grouped width keys d).props outs }
-    ensures final_group { (h : Hashing) (width n : ℕ) (keys : List ℕ) (d : Said) (ins outs : List (List Row))
-        → Delivers h (group_need keys n) ins → Groups keys ins outs → Meets h d.props ins → Meets h (grouped width keys d).props outs }
-    ensures right { (h : Hashing) (keys : List (ℕ × ℕ)) (d e : Said) (lefts rights outs : List (List Row))
+        → Dealt n ins outs → Meets h d.props ins
+        → Meets h (repartitioned (ByTurns n) d).props outs }
+    ensures partial_group
+        { (h : Hashing) (width : ℕ) (keys : List ℕ) (d : Said) (ins outs : List (List Row))
+        → PartGroups keys ins outs → Meets h d.props ins
+        → Meets h (grouped width keys d).props outs }
+    ensures final_group
+        { (h : Hashing) (width n : ℕ) (keys : List ℕ) (d : Said) (ins outs : List (List Row))
+        → Delivers h (group_need keys n) ins → Groups keys ins outs → Meets h d.props ins
+        → Meets h (grouped width keys d).props outs }
+    ensures right
+        { (h : Hashing) (keys : List (ℕ × ℕ)) (d e : Said) (lefts rights outs : List (List Row))
         → RightSides h keys d lefts rights → Meets h d.props lefts → Meets h e.props rights
-        → Joined (RightRow keys d.width) lefts rights outs → Meets h (hash_joined RightJoin keys d e).props outs }
-    ensures full { (h : Hashing) (keys : List (ℕ × ℕ)) (d e : Said) (lefts rights outs : List (List Row))
+        → Joined (RightRow keys d.width) lefts rights outs
+        → Meets h (hash_joined RightJoin keys d e).props outs }
+    ensures full
+        { (h : Hashing) (keys : List (ℕ × ℕ)) (d e : Said) (lefts rights outs : List (List Row))
         → Meets h d.props lefts
-        → Joined (FullRow keys d.width e.width) lefts rights outs → Meets h (hash_joined FullJoin keys d e).props outs }
+        → Joined (FullRow keys d.width e.width) lefts rights outs
+        → Meets h (hash_joined FullJoin keys d e).props outs }
 {}
 
 /// What every node of a plan declares stands of the rows that it gives, where it stands of its inputs and the node's needs are met.
@@ -74,7 +92,8 @@ pub fn whole_law()
         → AllStand h (kids node) → NodeNeeds h n node → NodeGives h node outs
         → Stands h (declared (map-Plan Input Said (λ i. i.0) node)) outs }
     ensures plan { (h : Hashing) (n : ℕ) (node : Node PlanInput) (outs : List (List Row))
-        → AllStand h (kids (inputs_of node)) → NodeNeeds h n (inputs_of node) → NodeGives h (inputs_of node) outs
+        → AllStand h (kids (inputs_of node)) → NodeNeeds h n (inputs_of node)
+        → NodeGives h (inputs_of node) outs
         → Stands h (declared_of (roll-Plan (plans_of node))) outs }
     ensures begun { (h : Hashing) (d : Said) (whole outs : List (List Row))
         → Begun whole outs → Stands h d whole → Stands h d outs }

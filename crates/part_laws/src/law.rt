@@ -22,9 +22,11 @@ ghost use Rattle.part_laws.specs.Doing.{the_doing};
 /// (`answering`); and there are such, for all nodes of all plans (`doing`).
 pub fn parts_law()
     ensures lists { LawsOfParts the_phases }
-    ensures doing { (tables : Tables) (amount : Node Plan → Amount) (channel : List ℕ → ℕ → Cells → ℕ)
+    ensures doing { (tables : Tables) (amount : Node Plan → Amount) (channel : List ℕ → ℕ → Cells
+        → ℕ)
         → ((spread : Node Plan → Bool) → IsMade (the_doing tables amount channel) tables spread)
         × AreOperators (the_doing tables amount channel) }
-    ensures answering { (f : Doing) (tables : Tables) (spread : Node Plan → Bool) → IsMade f tables spread
+    ensures answering { (f : Doing) (tables : Tables) (spread : Node Plan → Bool)
+        → IsMade f tables spread
         → IsAnswering f tables spread the_phases × IsOrdering f }
 {}

@@ -32,14 +32,17 @@ ghost use Rattle.content_laws.specs.Bags.{SameBag, together, Alike, row_parts};
 /// The rows of the first phase are of the kinds that the second phase knows (`kinds`). DISTINCT is
 /// grouping by all columns without calls, where there are columns (`no_calls`).
 pub fn two_phases_law()
-    ensures grouped { (columns : List ℕ) (calls : List AggCall) (kinds : List Kind) (segments : List (List Item))
+    ensures grouped { (columns : List ℕ) (calls : List AggCall) (kinds : List Kind)
+        (segments : List (List Item))
         (input : List Item) (n : ℕ) (parts : ℕ → List Item)
         → AllPass (are_of kinds) (rows input)
         → SameBag (concat segments) input
         → SameBag (together n parts) (flat_map (phase columns calls kinds) segments)
         → AreApart (numbers (length columns)) n parts
-        → Alike (together n (λ i. second_phase columns calls kinds (parts i))) (aggregated columns calls kinds input) }
-    ensures faults { (columns : List ℕ) (calls : List AggCall) (kinds : List Kind) (segments : List (List Item))
+        → Alike (together n (λ i. second_phase columns calls kinds (parts i)))
+        (aggregated columns calls kinds input) }
+    ensures faults { (columns : List ℕ) (calls : List AggCall) (kinds : List Kind)
+        (segments : List (List Item))
         (input : List Item) (n : ℕ) (parts : ℕ → List Item) (test : ItemFault → Bool)
         → AllPass (are_of kinds) (rows input)
         → SameBag (concat segments) input
@@ -50,11 +53,15 @@ pub fn two_phases_law()
         → AllPass test (faults (together n (λ i. second_phase columns calls kinds (parts i)))) }
     ensures arranged { (keys : List ℕ) (calls : List AggCall) (kinds : List Kind)
         (items : List Item) (n : ℕ) (parts : ℕ → List Item)
-        → AllPass (are_of kinds) (rows items) → SameBag items (together n parts) → AreApart keys n parts
-        → Alike (together n (λ i. final keys calls kinds (parts i))) (final keys calls kinds items) }
-    ensures kinds { (columns : List ℕ) (calls : List AggCall) (kinds : List Kind) (segment : List Item)
+        → AllPass (are_of kinds) (rows items) → SameBag items (together n parts)
+        → AreApart keys n parts
+        → Alike (together n (λ i. final keys calls kinds (parts i)))
+        (final keys calls kinds items) }
+    ensures kinds
+        { (columns : List ℕ) (calls : List AggCall) (kinds : List Kind) (segment : List Item)
         → AllPass (are_of kinds) (rows segment)
-        → AllPass (are_of (phase_kinds columns calls kinds)) (rows (phase columns calls kinds segment)) }
+        → AllPass (are_of (phase_kinds columns calls kinds))
+        (rows (phase columns calls kinds segment)) }
     ensures no_calls { (kinds : List Kind) (input : List Item)
         → AllPass (are_of kinds) (rows input) → 0 < length kinds
         → distinct input ≡ aggregated (numbers (length kinds)) [] kinds input }
@@ -67,9 +74,11 @@ pub fn two_phases_law()
 /// without keys too (`needed`).
 pub fn parts_law()
     ensures segments { (f : List Item → List Item) (closed : List (List Cells)) (rest : List Item)
-        → (closed_items f closed ++ f (drop (length (concat closed)) (of_rows (concat closed) ++ rest))
+        → (closed_items f closed
+        ++ f (drop (length (concat closed)) (of_rows (concat closed) ++ rest))
         ≡ flat_map f (segments_of closed (of_rows (concat closed) ++ rest)))
-        × (concat (segments_of closed (of_rows (concat closed) ++ rest)) ≡ of_rows (concat closed) ++ rest) }
+        × (concat (segments_of closed (of_rows (concat closed) ++ rest))
+        ≡ of_rows (concat closed) ++ rest) }
     ensures partitions { (f : List Item → List Item) (n : ℕ) (cuts : ℕ → List (List Item))
         → (together n (λ i. flat_map f (cuts i)) ≡ flat_map f (together n cuts))
         × (concat (together n cuts) ≡ together n (λ i. concat (cuts i))) }
@@ -84,9 +93,12 @@ pub fn parts_law()
 /// (`finished`).
 pub fn states_law()
     ensures updated { (call : AggCall) (values : List Value) (value : Value)
-        → joined call (state_of call values) (state_of call (value ∷ [])) ≡ state_of call (values ++ value ∷ []) }
-    ensures combined { (call : AggCall) (kind : Option Kind) (values others : List Value) (rest : Cells)
-        → joined call (state_of call values) (read call (cells_of call kind (state_of call others) ++ rest))
+        → joined call (state_of call values) (state_of call (value ∷ []))
+        ≡ state_of call (values ++ value ∷ []) }
+    ensures combined
+        { (call : AggCall) (kind : Option Kind) (values others : List Value) (rest : Cells)
+        → joined call (state_of call values)
+        (read call (cells_of call kind (state_of call others) ++ rest))
         ≡ state_of call (values ++ others) }
     ensures finished { (call : AggCall) (kind : Option Kind) (values : List Value)
         → agg call kind values ≡ finished call kind (state_of call values) }
@@ -95,13 +107,18 @@ pub fn states_law()
 /// The rows of the first phase (`first`), and the items of the second with keys (`second`) and
 /// without (`one`), are what a table of states gives that takes one row after the other.
 pub fn tables_law()
-    ensures first { (columns : List ℕ) (calls : List AggCall) (kinds : List Kind) (rows : List Cells)
-        → map (state_row calls kinds) (table (key_list columns) (starts calls) (with_row calls) rows)
+    ensures first
+        { (columns : List ℕ) (calls : List AggCall) (kinds : List Kind) (rows : List Cells)
+        → map (state_row calls kinds)
+        (table (key_list columns) (starts calls) (with_row calls) rows)
         ≡ phase_rows columns calls kinds rows }
-    ensures second { (keys : List ℕ) (n : ℕ) (calls : List AggCall) (kinds : List Kind) (rows : List Cells)
-        → map (finished_item n calls kinds) (table (key_list keys) (starts calls) (with_cells_behind n calls) rows)
+    ensures second
+        { (keys : List ℕ) (n : ℕ) (calls : List AggCall) (kinds : List Kind) (rows : List Cells)
+        → map (finished_item n calls kinds)
+        (table (key_list keys) (starts calls) (with_cells_behind n calls) rows)
         ≡ grouped (key_list keys) (final_item n calls kinds) rows }
-    ensures one { (n : ℕ) (calls : List AggCall) (kinds : List Kind) (keys : Cells) (rows : List Cells)
+    ensures one
+        { (n : ℕ) (calls : List AggCall) (kinds : List Kind) (keys : Cells) (rows : List Cells)
         → finished_item n calls kinds (keys, fold (with_cells_behind n calls) (starts calls) rows)
         ≡ final_item n calls kinds keys rows }
 {}

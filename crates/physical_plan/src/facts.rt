@@ -83,7 +83,8 @@ fn says_constant(alloc: Global, column: u32) -> Result<Fact, NoMemory>
 /// What an equation between two parts says: of two columns, or of a column and a constant.
 fn equals_at(alloc: Global, left: &Fact, right: &Fact) -> Result<Fact, NoMemory>
     ensures { IfOk result
-        (λ f. f ≡ spec.equals_at left.now.column left.now.literal right.now.column right.now.literal) }
+        (λ f. f ≡ spec.equals_at left.now.column left.now.literal
+        right.now.column right.now.literal) }
 {
     match (left.column, right.column) {
         (Some(one), Some(other)) => says_same(alloc, one, other),

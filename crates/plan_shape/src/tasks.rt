@@ -26,7 +26,13 @@ impl Model for TaskShape {
 
     ghost Value = { TaskShape };
 
-    ghost view = { λ t. record { stage = t.stage; sends = t.sends; targets = t.targets; receives = t.receives; consumers = t.consumers } };
+    ghost view = { λ t. record {
+      stage = t.stage;
+      sends = t.sends;
+      targets = t.targets;
+      receives = t.receives;
+      consumers = t.consumers;
+    } };
 }
 
 impl TaskShape {

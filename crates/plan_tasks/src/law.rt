@@ -32,21 +32,24 @@ ghost use Rattle.plan_tasks.specs.Sources.{files_of, files_in, reads_all, places
 /// are made of its inputs' (`grown`, `topped`, `counted`).
 pub fn trees_law()
     ensures tree { (f : Doing) → AreOperators f → (p : Plan) (a : At) (i : ℕ)
-        → IsTreeOf a.stage (a.stage + stages_in p) a.consumer (slice_index_or (layout p a.stage).parts i bare)
+        → IsTreeOf a.stage (a.stage + stages_in p) a.consumer
+        (slice_index_or (layout p a.stage).parts i bare)
         (tree_of f p a i) }
     ensures stages { (p : Plan) (k s : ℕ)
         → (length (layout p k).stages ≡ stages_in p) × (length (tops p k s) ≡ stages_in p) }
     ensures spills { (f : Doing) → AreOperators f → (p : Plan) (k s i : ℕ)
         → (seed_at f p k s i).consumers ≡ (slice_index_or (layout p k).parts i bare).consumers }
     ensures reads { (t : Tree) (xs : List (ℕ × ℕ)) → Reads t xs
-        → (g c : ℕ) → (HasInlet g c t → names xs g c ≡ true) × (names xs g c ≡ true → HasInlet g c t) }
+        → (g c : ℕ) → (HasInlet g c t → names xs g c ≡ true)
+        × (names xs g c ≡ true → HasInlet g c t) }
     ensures reserves { (t : Tree) (cs : List ℕ) → Reserves t cs
         → (c : ℕ) → (HasConsumer c t → has cs c ≡ true) × (has cs c ≡ true → HasConsumer c t) }
     ensures grown { (f : Doing) (z : Plan-F Plan)
         → partitions_of f (roll-Plan z)
         ≡ grow f (map-Plan Plan (Plan × Growing) (λ (p : Plan). (p, partitions_of f p)) z) }
     ensures topped { (z : Plan-F Plan)
-        → tops (roll-Plan z) ≡ top_node (map-Plan Plan (Plan × Topping) (λ (p : Plan). (p, tops p)) z) }
+        → tops (roll-Plan z)
+        ≡ top_node (map-Plan Plan (Plan × Topping) (λ (p : Plan). (p, tops p)) z) }
     ensures counted { (z : Plan-F Plan)
         → (stages_in (roll-Plan z) ≡ count_stages (map-Plan Plan ℕ stages_in z))
         × (sources_in (roll-Plan z) ≡ count_sources (map-Plan Plan ℕ sources_in z)) }
@@ -55,7 +58,8 @@ pub fn trees_law()
 /// A node's partition is made of its inputs' partitions (`branch`), where the inputs of a join have equally many: its
 /// tree, its consumers and its files. How many partitions a plan has, its counts say (`parts`).
 pub fn branches_law()
-    ensures branch { (f : Doing) (z : Plan-F Plan) (k s i : ℕ) → IsEven z → i < (counts_of (roll-Plan z)).parts
+    ensures branch { (f : Doing) (z : Plan-F Plan) (k s i : ℕ) → IsEven z
+        → i < (counts_of (roll-Plan z)).parts
         → seed_at f (roll-Plan z) k s i ≡ branch f z k s i }
     ensures parts { (f : Doing) (p : Plan) (k s : ℕ) → width_at f p k s ≡ (counts_of p).parts }
 {}
@@ -78,7 +82,8 @@ pub fn start_law()
     ensures spillable { (f : Doing) → AreOperators f → (p : Plan)
         → (shape p).spillable ≡ consumers_over f (all_tops p) }
     ensures begins { (f : Doing) → AreOperators f → (p : Plan) (t : ℕ)
-        → IsApart (the_task (tasks_of f p) t).tree × IsHolding (λ c. 0) (the_task (tasks_of f p) t).tree }
+        → IsApart (the_task (tasks_of f p) t).tree
+        × IsHolding (λ c. 0) (the_task (tasks_of f p) t).tree }
     ensures heads { (f : Doing) → AreOperators f → (p : Plan) (t : ℕ)
         → HeadsOwn (the_task (tasks_of f p) t) }
     ensures filled { (f : Doing) → AreOperators f → (p : Plan) → AreFilled (tasks_of f p) }
@@ -95,11 +100,13 @@ pub fn stages_law()
         → (i : ℕ) → i < length (seeds_of f t) → IsPlaced f p before t i }
     ensures stage { (f : Doing) → AreOperators f → (p : Plan) (before after : List Top) (t : Top)
         → all_tops p ≡ before ++ t ∷ after
-        → (t.stage ≡ length before) × (width (shape p) t.stage ≡ width_by t.way (length (seeds_of f t))) }
+        → (t.stage ≡ length before)
+        × (width (shape p) t.stage ≡ width_by t.way (length (seeds_of f t))) }
     ensures feeds { (f : Doing) → AreOperators f → (p : Plan) (before after : List Top) (t : Top)
         → all_tops p ≡ before ++ t ∷ after
         → 0 < t.stage → (h : ℕ → ℕ)
-        → sum_below (length (shape p).tasks) (λ u. if is_group (task_at (shape p) u).sends t.stage then h u else 0)
+        → sum_below (length (shape p).tasks)
+        (λ u. if is_group (task_at (shape p) u).sends t.stage then h u else 0)
         ≡ sum_below (length (seeds_of f t)) (λ i. h (tasks_before f before + i)) }
 {}
 
@@ -112,7 +119,8 @@ pub fn senders_law()
     ensures own { (f : Doing) → AreOperators f → (p : Plan) (before after : List Top) (t : Top)
         → all_tops p ≡ before ++ t ∷ after
         → 0 < t.stage → t.way ≡ ToOwn → (i : ℕ) → i < length (seeds_of f t)
-        → IsOnlySender (shape p) (tasks_of f p) (deal_of f p) (tasks_before f before + i) t.stage i }
+        → IsOnlySender (shape p) (tasks_of f p) (deal_of f p) (tasks_before f before + i)
+        t.stage i }
     ensures lone { (f : Doing) → AreOperators f → (p : Plan) (before after : List Top) (t : Top)
         → all_tops p ≡ before ++ t ∷ after
         → 0 < t.stage → length (seeds_of f t) ≡ 1 → (i : ℕ) → i < length (seeds_of f t)

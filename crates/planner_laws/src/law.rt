@@ -31,9 +31,11 @@ ghost use Rattle.planner_laws.specs.Channels.{channel_by};
 /// of them (`engine`), and there are such, for every hash and all tables (`doing`).
 pub fn planned_parts_law()
     ensures groups { AreGroups the_phases }
-    ensures engine { (h : Hashing) (f : Doing) (tables : Tables) (n : ℕ) → IsMade f tables (on_properties tables n)
+    ensures engine { (h : Hashing) (f : Doing) (tables : Tables) (n : ℕ)
+        → IsMade f tables (on_properties tables n)
         → AreOperators f → IsChannelOf h f → IsEngineBy h f tables n the_phases }
-    ensures doing { (h : Hashing) → IsHash h → (tables : Tables) (n : ℕ) (amount : Node Plan → Amount)
+    ensures doing { (h : Hashing) → IsHash h
+        → (tables : Tables) (n : ℕ) (amount : Node Plan → Amount)
         → IsEngineBy h (the_doing tables amount (channel_by h)) tables n the_phases }
 {}
 
@@ -41,15 +43,20 @@ pub fn planned_parts_law()
 /// that the query allows (`plans`): so of the plan that the planner makes of any query whose columns are in range
 /// (`planner`).
 pub fn planner_law()
-    ensures plans { (h : Hashing) (f : Doing) (tables : Tables) (n : ℕ) → IsEngineBy h f tables n the_phases
-        → (q : AQuery) → has_distincts tables q.body ≡ true → (files : List ℕ) → is_known tables files q.body ≡ true
+    ensures plans { (h : Hashing) (f : Doing) (tables : Tables) (n : ℕ)
+        → IsEngineBy h f tables n the_phases
+        → (q : AQuery) → has_distincts tables q.body ≡ true → (files : List ℕ)
+        → is_known tables files q.body ≡ true
         → 0 < n
         → (p : Plan) → IsWhollyPlanned q files p n
         → (s : State) → IsFinishedRun f p s → Allowed q tables (the_task s.tasks 0).output }
-    ensures planner { (h : Hashing) (f : Doing) (tables : Tables) (n : ℕ) → IsEngineBy h f tables n the_phases
-        → (q : AQuery) → has_distincts tables q.body ≡ true → (files : List ℕ) → is_known tables files q.body ≡ true
+    ensures planner { (h : Hashing) (f : Doing) (tables : Tables) (n : ℕ)
+        → IsEngineBy h f tables n the_phases
+        → (q : AQuery) → has_distincts tables q.body ≡ true → (files : List ℕ)
+        → is_known tables files q.body ≡ true
         → 0 < n
         → QueryInRange q
-        → (s : State) → IsFinishedRun f (enforce_sorting (enforce_distribution (build q files n) n)) s
+        → (s : State)
+        → IsFinishedRun f (enforce_sorting (enforce_distribution (build q files n) n)) s
         → Allowed q tables (the_task s.tasks 0).output }
 {}

@@ -25,11 +25,15 @@ ghost use Rattle.query_laws.specs.Runs.{Setting, IsSetting, tables_in, doing_in,
 /// reservation, it names a fault that the query meets: that of an evaluation, or one in a file that it scans, at that
 /// file's source (`cause`).
 pub fn query_runs_law()
-    ensures good { (r : Setting) → IsSetting r → (entries : List Entry) (s : State) → LeadsTo r entries s
+    ensures good { (r : Setting) → IsSetting r → (entries : List Entry) (s : State)
+        → LeadsTo r entries s
         → Good r.size r.hash (doing_in r) (tables_in r) the_phases r.made.plan s }
-    ensures answer { (r : Setting) → IsSetting r → (entries : List Entry) (s : State) → LeadsTo r entries s
-        → place_of s.run.frame 0 ≡ Done → Allowed r.made.query (tables_in r) (the_task s.tasks 0).output }
+    ensures answer { (r : Setting) → IsSetting r → (entries : List Entry) (s : State)
+        → LeadsTo r entries s
+        → place_of s.run.frame 0 ≡ Done
+        → Allowed r.made.query (tables_in r) (the_task s.tasks 0).output }
     ensures cause { (r : Setting) → IsSetting r → (entries : List Entry) (e : Entry) (s : State)
-        → LeadsTo r (entries ++ e ∷ []) s → (cause : Cause) → e.kind ≡ Failed cause → is_of_fault cause ≡ true
+        → LeadsTo r (entries ++ e ∷ []) s → (cause : Cause) → e.kind ≡ Failed cause
+        → is_of_fault cause ≡ true
         → EndsAt (all_faults (tables_in r) r.made.query.body) (places_of r.made.plan) cause }
 {}

@@ -18,7 +18,9 @@ pub fn push_line<W: Write + Drop>(
     record: &ByteRecord,
 ) -> Result<(), NoMemory>
     ensures { (text : List ℕ) → Stands W.contents writer.old text
-        → OnOk result (Stands W.contents writer.new (text ++ row_text default_writer (fields_of record.now))) }
+        → OnOk result
+        (Stands W.contents writer.new
+        (text ++ row_text default_writer (fields_of record.now))) }
 {
     match writer.write_byte_record(record) {
         Ok(()) => Ok(()),

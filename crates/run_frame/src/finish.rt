@@ -19,9 +19,11 @@ where
     B: Drop,
     requires leaves { Leaves groups.old.items woken.old receives.now }
 
-    ensures frame { (pool : APool) (places : List APlace) (progress : List Bool) (failure : Option ACause)
+    ensures frame
+        { (pool : APool) (places : List APlace) (progress : List Bool) (failure : Option ACause)
         → frame_of groups.new.items pool woken.new.tasks places progress failure
-        ≡ drops receives.now (frame_of groups.old.items pool woken.old.tasks places progress failure) }
+        ≡ drops receives.now
+        (frame_of groups.old.items pool woken.old.tasks places progress failure) }
     ensures rooms { map (λ g. g.room) groups.new.items ≡ map (λ g. g.room) groups.old.items }
     ensures queue { woken.new.room ≡ woken.old.room }
 {
@@ -34,9 +36,11 @@ where
 fn end_senders<B>(groups: &mut Vec<Group<B>>, woken: &mut Woken, group: u32, targets: &[u32])
     requires ends { EndsSenders groups.old.items woken.old group targets.now }
 
-    ensures frame { (pool : APool) (places : List APlace) (progress : List Bool) (failure : Option ACause)
+    ensures frame
+        { (pool : APool) (places : List APlace) (progress : List Bool) (failure : Option ACause)
         → frame_of groups.new.items pool woken.new.tasks places progress failure
-        ≡ ends_in group targets.now (frame_of groups.old.items pool woken.old.tasks places progress failure) }
+        ≡ ends_in group targets.now
+        (frame_of groups.old.items pool woken.old.tasks places progress failure) }
     ensures rooms { map (λ g. g.room) groups.new.items ≡ map (λ g. g.room) groups.old.items }
     ensures queue { woken.new.room ≡ woken.old.room }
 {
@@ -55,9 +59,11 @@ fn end_as_sender<B>(
     requires ends { (g : ℕ) → sends ≡ Some g
         → EndsSenders groups.old.items woken.old g targets.now }
 
-    ensures frame { (pool : APool) (places : List APlace) (progress : List Bool) (failure : Option ACause)
+    ensures frame
+        { (pool : APool) (places : List APlace) (progress : List Bool) (failure : Option ACause)
         → frame_of groups.new.items pool woken.new.tasks places progress failure
-        ≡ ends sends targets.now (frame_of groups.old.items pool woken.old.tasks places progress failure) }
+        ≡ ends sends targets.now
+        (frame_of groups.old.items pool woken.old.tasks places progress failure) }
     ensures rooms { map (λ g. g.room) groups.new.items ≡ map (λ g. g.room) groups.old.items }
     ensures queue { woken.new.room ≡ woken.old.room }
 {
@@ -81,7 +87,8 @@ where
 
     ensures frame { (places : List APlace) (progress : List Bool) (failure : Option ACause)
         → frame_of groups.new.items pool.new woken.new.tasks places progress failure
-        ≡ left_by (task_at shape.now task) (frame_of groups.old.items pool.old woken.old.tasks places progress failure) }
+        ≡ left_by (task_at shape.now task)
+        (frame_of groups.old.items pool.old woken.old.tasks places progress failure) }
     ensures rooms { map (λ g. g.room) groups.new.items ≡ map (λ g. g.room) groups.old.items }
     ensures queue { woken.new.room ≡ woken.old.room }
     ensures spillable { pool.new.spillable ≡ pool.old.spillable }

@@ -43,7 +43,8 @@ impl<B> Model for RunFrame<B> {
 
     ghost view = { λ m. record {
       shape = m.shape;
-      frame = frame_of m.groups.items m.pool m.woken.tasks m.places.items m.progress.items m.failure;
+      frame = frame_of m.groups.items m.pool m.woken.tasks m.places.items
+          m.progress.items m.failure;
     } };
 
     ghost invariant = { λ m. IsRunning m.shape m.groups.items m.pool m.woken.tasks m.woken.room

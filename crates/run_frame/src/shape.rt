@@ -24,7 +24,13 @@ impl Model for TaskShape {
 
     ghost Value = { TaskShape };
 
-    ghost view = { λ t. record { stage = t.stage; sends = t.sends; targets = t.targets; receives = t.receives; consumers = t.consumers } };
+    ghost view = { λ t. record {
+      stage = t.stage;
+      sends = t.sends;
+      targets = t.targets;
+      receives = t.receives;
+      consumers = t.consumers;
+    } };
 }
 
 /// The tasks of a plan, how many channels each group has, and which consumers can spill.

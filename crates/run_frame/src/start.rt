@@ -39,7 +39,8 @@ fn count_targets(senders: &mut Vec<u32>, targets: &[u32]) -> Result<(), NoMemory
 
     ensures long { length senders.new.items ≡ length senders.old.items }
     ensures counts { OnOk result ((c : ℕ) → c < length senders.old.items
-        → slice_index_or senders.new.items c 0 ≡ slice_index_or senders.old.items c 0 + count c targets.now) }
+        → slice_index_or senders.new.items c 0
+        ≡ slice_index_or senders.old.items c 0 + count c targets.now) }
 {
     for target in targets {
         let at = *target as usize;

@@ -32,12 +32,15 @@ ghost use Rattle.run_laws.specs.Kept.{IsRun, IsToldRun, TaskIs};
 pub fn told_law<B>()
     ensures answered { (rows : B → List Cells) (p : Shape) (size : ℕ) (s : State) (f new : Frame B)
         (e : Entry) (need : Need B) (w : Wait)
-        → s.run.frame ≡ map_frame rows f → frame_step p f e need ≡ Some new → asks_nothing e.kind ≡ false
+        → s.run.frame ≡ map_frame rows f → frame_step p f e need ≡ Some new
+        → asks_nothing e.kind ≡ false
         → Settles size (the_task s.tasks e.task) w → w.need ≡ map_need rows need
         → Leads p size s (e ∷ []) (answered rows s e w new (reply_of p f e.task e.kind need)) }
-    ensures unanswered { (rows : B → List Cells) (p : Shape) (size : ℕ) (s : State) (f new : Frame B)
+    ensures unanswered
+        { (rows : B → List Cells) (p : Shape) (size : ℕ) (s : State) (f new : Frame B)
         (e : Entry) (need : Need B)
-        → s.run.frame ≡ map_frame rows f → frame_step p f e need ≡ Some new → asks_nothing e.kind ≡ true
+        → s.run.frame ≡ map_frame rows f → frame_step p f e need ≡ Some new
+        → asks_nothing e.kind ≡ true
         → Leads p size s (e ∷ []) (unanswered rows s new) }
 {}
 
@@ -58,11 +61,13 @@ pub fn others_law<B>()
 pub fn owner_law()
     ensures apart { (p : Shape) (size steps : ℕ) (s new : State) (e : Entry) (t : ℕ)
         → e.task ≢ t → state_step p size steps s e ≡ Some new
-        → (past_of new.run.pasts t ≡ past_of s.run.pasts t) × (the_task new.tasks t ≡ the_task s.tasks t) }
+        → (past_of new.run.pasts t ≡ past_of s.run.pasts t)
+        × (the_task new.tasks t ≡ the_task s.tasks t) }
     ensures entries { (p : Shape) (size : ℕ) (s new : State) (entries : List Entry) (w t : ℕ)
         → IsLawful p s.run.frame → place_of s.run.frame t ≡ OwnedBy w → entries_by w entries ≡ []
         → Leads p size s entries new → IsLeft w t s new }
-    ensures follows { (p : Shape) (size : ℕ) (start s new : State) (before after : List Entry) (w t : ℕ)
+    ensures follows
+        { (p : Shape) (size : ℕ) (start s new : State) (before after : List Entry) (w t : ℕ)
         → IsLawful p s.run.frame → place_of s.run.frame t ≡ OwnedBy w
         → Leads p size start before s → Leads p size start after new → JournalFollows w before after
         → IsLeft w t s new }
@@ -75,7 +80,8 @@ pub fn owner_law()
 pub fn loan_law<B>()
     ensures opening { (p : Shape) (limit : ℕ) → AreLoans {B = B} [] (opening p limit) }
     ensures step { (p : Shape) (f new : Frame B) (e : Entry) (need : Need B) (acts : List Act)
-        → IsLawful p f → AreLoans acts f → frame_step p f e need ≡ Some new → AreLoans (acts ++ Made e ∷ []) new }
+        → IsLawful p f → AreLoans acts f → frame_step p f e need ≡ Some new
+        → AreLoans (acts ++ Made e ∷ []) new }
     ensures returned { (f : Frame B) (acts : List Act) (w t : ℕ)
         → AreLoans acts f → is_some f.failure ≡ true → AreLoans (acts ++ Returned w t ∷ []) f }
     ensures replay { (p : Shape) (limit : ℕ) (steps : List (Entry × Need B)) (f : Frame B)
@@ -86,7 +92,8 @@ pub fn loan_law<B>()
     ensures apart { (f : Frame B) (acts : List Act) (w v t : ℕ)
         → AreLoans acts f → loan_of w acts ≡ Some t → loan_of v acts ≡ Some t → w ≡ v }
     ensures going { (f : Frame B) (acts : List Act) (w t : ℕ)
-        → AreLoans acts f → f.failure ≡ None → (loan_of w acts ≡ Some t) ↔ (place_of f t ≡ OwnedBy w) }
+        → AreLoans acts f → f.failure ≡ None → (loan_of w acts ≡ Some t)
+        ↔ (place_of f t ≡ OwnedBy w) }
 {}
 
 /// A run of tasks, from its start. Each state that entries lead to is a reached one (`reached`), its frame is lawful
@@ -98,14 +105,17 @@ pub fn start_law()
         → IsShape p → IsStart p size limit start → Leads p size start entries s
         → IsReached p size limit start entries s }
     ensures lawful { (p : Shape) (size limit : ℕ) (start s : State) (entries : List Entry)
-        → IsShape p → IsStart p size limit start → Leads p size start entries s → IsLawful p s.run.frame }
+        → IsShape p → IsStart p size limit start → Leads p size start entries s
+        → IsLawful p s.run.frame }
     ensures loans { (p : Shape) (size limit : ℕ) (start s : State) (entries : List Entry)
         → IsShape p → IsStart p size limit start → Leads p size start entries s
         → AreLoans (map Made entries) s.run.frame }
-    ensures stays { (p : Shape) (size limit : ℕ) (start new : State) (before now : List Act) (w t : ℕ)
+    ensures stays { (p : Shape) (size limit : ℕ) (start new : State) (before now : List Act)
+        (w t : ℕ)
         → IsShape p → IsStart p size limit start
         → loan_of w before ≡ Some t → Follows w before now → Leads p size start (journal_of now) new
-        → (s : State) × Leads p size start (journal_of before) s × IsLeft w t s new × (loan_of w now ≡ Some t) }
+        → (s : State) × Leads p size start (journal_of before) s × IsLeft w t s new
+        × (loan_of w now ≡ Some t) }
 {}
 
 /// What a run keeps, told or not, by each of its acts: at the opening (`begun`), where an entry is made by a need of
@@ -113,11 +123,13 @@ pub fn start_law()
 pub fn kept_law<B>()
     ensures begun { (p : Shape) (limit : ℕ) → IsShape p
         → IsRun {B = B} p limit [] (opening p limit) }
-    ensures made { (p : Shape) (limit : ℕ) (acts : List Act) (f new : Frame B) (e : Entry) (need : Need B)
+    ensures made
+        { (p : Shape) (limit : ℕ) (acts : List Act) (f new : Frame B) (e : Entry) (need : Need B)
         → IsShape p → IsRun p limit acts f → IsOwn p e.task need → frame_step p f e need ≡ Some new
         → IsRun p limit (acts ++ Made e ∷ []) new }
     ensures returned { (p : Shape) (limit : ℕ) (acts : List Act) (f : Frame B) (w t : ℕ)
-        → IsRun p limit acts f → is_some f.failure ≡ true → IsRun p limit (acts ++ Returned w t ∷ []) f }
+        → IsRun p limit acts f → is_some f.failure ≡ true
+        → IsRun p limit (acts ++ Returned w t ∷ []) f }
 {}
 
 /// And what it keeps where it is told. An entry that asks nothing leaves every task (`unanswered`). One by the need
@@ -125,12 +137,16 @@ pub fn kept_law<B>()
 pub fn kept_told_law<B>()
     ensures begun { (rows : B → List Cells) (p : Shape) (size limit : ℕ) (start : State)
         → IsStart p size limit start → IsToldRun rows p size start [] (opening p limit) }
-    ensures unanswered { (rows : B → List Cells) (p : Shape) (size : ℕ) (start : State) (acts : List Act)
+    ensures unanswered
+        { (rows : B → List Cells) (p : Shape) (size : ℕ) (start : State) (acts : List Act)
         (f new : Frame B) (e : Entry) (need : Need B)
-        → IsToldRun rows p size start acts f → frame_step p f e need ≡ Some new → asks_nothing e.kind ≡ true
+        → IsToldRun rows p size start acts f → frame_step p f e need ≡ Some new
+        → asks_nothing e.kind ≡ true
         → IsToldRun rows p size start (acts ++ Made e ∷ []) new
-        × ((t : ℕ) (k : Task) → TaskIs p size start acts t k → TaskIs p size start (acts ++ Made e ∷ []) t k) }
-    ensures answered { (rows : B → List Cells) (p : Shape) (size limit : ℕ) (start : State) (acts : List Act)
+        × ((t : ℕ) (k : Task) → TaskIs p size start acts t k
+        → TaskIs p size start (acts ++ Made e ∷ []) t k) }
+    ensures answered
+        { (rows : B → List Cells) (p : Shape) (size limit : ℕ) (start : State) (acts : List Act)
         (f new : Frame B) (e : Entry) (need : Need B) (k : Task) (w : Wait)
         → IsShape p → IsStart p size limit start → IsToldRun rows p size start acts f
         → TaskIs p size start acts e.task k → Settles size k w → w.need ≡ map_need rows need
@@ -138,9 +154,11 @@ pub fn kept_told_law<B>()
         → IsToldRun rows p size start (acts ++ Made e ∷ []) new
         × TaskIs p size start (acts ++ Made e ∷ []) e.task
         (task_after w (option_map (map_reply rows) (reply_of p f e.task e.kind need))) }
-    ensures returned { (rows : B → List Cells) (p : Shape) (size : ℕ) (start : State) (acts : List Act)
+    ensures returned
+        { (rows : B → List Cells) (p : Shape) (size : ℕ) (start : State) (acts : List Act)
         (f : Frame B) (w t : ℕ)
-        → IsToldRun rows p size start acts f → IsToldRun rows p size start (acts ++ Returned w t ∷ []) f }
+        → IsToldRun rows p size start acts f
+        → IsToldRun rows p size start (acts ++ Returned w t ∷ []) f }
 {}
 
 /// The acts lead to one state at most, where a task is one (`one`), and at the start it is the start's (`begun`). It
@@ -151,12 +169,16 @@ pub fn job_law()
         → TaskIs p size start [] t (the_task start.tasks t) }
     ensures one { (p : Shape) (size : ℕ) (start : State) (acts : List Act) (t : ℕ) (k j : Task)
         → TaskIs p size start acts t k → TaskIs p size start acts t j → k ≡ j }
-    ensures apart { (p : Shape) (size : ℕ) (start new : State) (acts : List Act) (e : Entry) (t : ℕ) (k : Task)
-        → e.task ≢ t → TaskIs p size start acts t k → Leads p size start (journal_of (acts ++ Made e ∷ [])) new
+    ensures apart { (p : Shape) (size : ℕ) (start new : State) (acts : List Act) (e : Entry)
+        (t : ℕ) (k : Task)
+        → e.task ≢ t → TaskIs p size start acts t k
+        → Leads p size start (journal_of (acts ++ Made e ∷ [])) new
         → TaskIs p size start (acts ++ Made e ∷ []) t k }
-    ensures returned { (p : Shape) (size : ℕ) (start : State) (acts : List Act) (w u t : ℕ) (k : Task)
+    ensures returned
+        { (p : Shape) (size : ℕ) (start : State) (acts : List Act) (w u t : ℕ) (k : Task)
         → TaskIs p size start acts t k → TaskIs p size start (acts ++ Returned w u ∷ []) t k }
-    ensures stays { (p : Shape) (size limit : ℕ) (start new : State) (before now : List Act) (w t : ℕ) (k : Task)
+    ensures stays { (p : Shape) (size limit : ℕ) (start new : State) (before now : List Act)
+        (w t : ℕ) (k : Task)
         → IsShape p → IsStart p size limit start
         → loan_of w before ≡ Some t → Follows w before now → TaskIs p size start before t k
         → Leads p size start (journal_of now) new → TaskIs p size start now t k }

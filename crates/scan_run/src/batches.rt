@@ -34,12 +34,16 @@ fn push_next<S: Source>(
     requires chain { is_chain body.now ≡ true }
     requires going { scan.old.refused ≡ false }
 
-    ensures more { (items : List csv.Item) (text : List ℕ) (count : ℕ) → Taken body.now items text count scan.old.left lines.old
+    ensures more { (items : List csv.Item) (text : List ℕ) (count : ℕ)
+        → Taken body.now items text count scan.old.left lines.old
         → result ≡ Ok true → Taken body.now items text (count + 1) scan.new.left lines.new }
-    ensures last { (items : List csv.Item) (text : List ℕ) (count : ℕ) → Taken body.now items text count scan.old.left lines.old
+    ensures last { (items : List csv.Item) (text : List ℕ) (count : ℕ)
+        → Taken body.now items text count scan.old.left lines.old
         → result ≡ Ok false → TakenAll body.now items text lines.new }
-    ensures met { (items : List csv.Item) (text : List ℕ) (count table : ℕ) (e : Refusal) (fault : ItemFault) → Taken body.now items text count scan.old.left lines.old
-        → count < batch_rows → result ≡ Err e → fault_named table e ≡ Some fault → Meets body.now (items_of_file table file items) fault }
+    ensures met { (items : List csv.Item) (text : List ℕ) (count table : ℕ) (e : Refusal)
+        (fault : ItemFault) → Taken body.now items text count scan.old.left lines.old
+        → count < batch_rows → result ≡ Err e → fault_named table e ≡ Some fault
+        → Meets body.now (items_of_file table file items) fault }
 
     ensures kind { IfErr result (IsOfRows file) }
     ensures calm { result ≢ Err refused.Write }
@@ -72,12 +76,17 @@ fn push_batch<S: Source>(
     requires chain { is_chain body.now ≡ true }
     requires going { scan.old.refused ≡ false }
 
-    ensures more { (items : List csv.Item) (text : List ℕ) → Taken body.now items text 0 scan.old.left lines.old
+    ensures more { (items : List csv.Item) (text : List ℕ)
+        → Taken body.now items text 0 scan.old.left lines.old
         → result ≡ Ok true → Taken body.now items text batch_rows scan.new.left lines.new }
-    ensures last { (items : List csv.Item) (text : List ℕ) → Taken body.now items text 0 scan.old.left lines.old
+    ensures last { (items : List csv.Item) (text : List ℕ)
+        → Taken body.now items text 0 scan.old.left lines.old
         → result ≡ Ok false → TakenAll body.now items text lines.new }
-    ensures met { (items : List csv.Item) (text : List ℕ) (table : ℕ) (e : Refusal) (fault : ItemFault) → Taken body.now items text 0 scan.old.left lines.old
-        → result ≡ Err e → fault_named table e ≡ Some fault → Meets body.now (items_of_file table file items) fault }
+    ensures met
+        { (items : List csv.Item) (text : List ℕ) (table : ℕ) (e : Refusal) (fault : ItemFault)
+        → Taken body.now items text 0 scan.old.left lines.old
+        → result ≡ Err e → fault_named table e ≡ Some fault
+        → Meets body.now (items_of_file table file items) fault }
 
     ensures kind { IfErr result (IsOfRows file) }
     ensures calm { result ≢ Err refused.Write }
@@ -106,14 +115,22 @@ fn write_batch<S: Source, K: Sink>(
     requires chain { is_chain body.now ≡ true }
     requires going { scan.old.refused ≡ false }
 
-    ensures more { (items : List csv.Item) (before : List ℕ) → Writing body.now items before scan.old.left (K.told sink.old)
+    ensures more { (items : List csv.Item) (before : List ℕ)
+        → Writing body.now items before scan.old.left (K.told sink.old)
         → result ≡ Ok true → Writing body.now items before scan.new.left (K.told sink.new) }
-    ensures last { (items : List csv.Item) (before : List ℕ) (table : ℕ) → Writing body.now items before scan.old.left (K.told sink.old)
-        → result ≡ Ok false → WroteAll body.now (items_of_file table file items) before (K.told sink.new) }
-    ensures met { (items : List csv.Item) (before : List ℕ) (table : ℕ) (e : Refusal) (fault : ItemFault) → Writing body.now items before scan.old.left (K.told sink.old)
-        → result ≡ Err e → fault_named table e ≡ Some fault → WroteBefore body.now [] (items_of_file table file items) before fault (K.told sink.new) }
-    ensures part { (items : List csv.Item) (before : List ℕ) (table : ℕ) → Writing body.now items before scan.old.left (K.told sink.old)
-        → OnErr result (WrotePart body.now (items_of_file table file items) before (K.told sink.new)) }
+    ensures last { (items : List csv.Item) (before : List ℕ) (table : ℕ)
+        → Writing body.now items before scan.old.left (K.told sink.old)
+        → result ≡ Ok false
+        → WroteAll body.now (items_of_file table file items) before (K.told sink.new) }
+    ensures met
+        { (items : List csv.Item) (before : List ℕ) (table : ℕ) (e : Refusal) (fault : ItemFault)
+        → Writing body.now items before scan.old.left (K.told sink.old)
+        → result ≡ Err e → fault_named table e ≡ Some fault
+        → WroteBefore body.now [] (items_of_file table file items) before fault (K.told sink.new) }
+    ensures part { (items : List csv.Item) (before : List ℕ) (table : ℕ)
+        → Writing body.now items before scan.old.left (K.told sink.old)
+        → OnErr result
+        (WrotePart body.now (items_of_file table file items) before (K.told sink.new)) }
 
     ensures kind { IfErr result (IsOfRows file) }
     ensures going { OnOk result (scan.new.refused ≡ false) }
@@ -146,12 +163,19 @@ pub(crate) fn write_rows<S: Source, K: Sink>(
     requires chain { is_chain body.now ≡ true }
     requires going { scan.old.refused ≡ false }
 
-    ensures all { (items : List csv.Item) (before : List ℕ) (table : ℕ) → scan.old.left ≡ Some items → K.told sink.old ≡ Some before
-        → OnOk result (WroteAll body.now (items_of_file table file items) before (K.told sink.new)) }
-    ensures met { (items : List csv.Item) (before : List ℕ) (table : ℕ) (e : Refusal) (fault : ItemFault) → scan.old.left ≡ Some items → K.told sink.old ≡ Some before
-        → result ≡ Err e → fault_named table e ≡ Some fault → WroteBefore body.now [] (items_of_file table file items) before fault (K.told sink.new) }
-    ensures part { (items : List csv.Item) (before : List ℕ) (table : ℕ) → scan.old.left ≡ Some items → K.told sink.old ≡ Some before
-        → OnErr result (WrotePart body.now (items_of_file table file items) before (K.told sink.new)) }
+    ensures all { (items : List csv.Item) (before : List ℕ) (table : ℕ)
+        → scan.old.left ≡ Some items → K.told sink.old ≡ Some before
+        → OnOk result
+        (WroteAll body.now (items_of_file table file items) before (K.told sink.new)) }
+    ensures met
+        { (items : List csv.Item) (before : List ℕ) (table : ℕ) (e : Refusal) (fault : ItemFault)
+        → scan.old.left ≡ Some items → K.told sink.old ≡ Some before
+        → result ≡ Err e → fault_named table e ≡ Some fault
+        → WroteBefore body.now [] (items_of_file table file items) before fault (K.told sink.new) }
+    ensures part { (items : List csv.Item) (before : List ℕ) (table : ℕ)
+        → scan.old.left ≡ Some items → K.told sink.old ≡ Some before
+        → OnErr result
+        (WrotePart body.now (items_of_file table file items) before (K.told sink.new)) }
 
     ensures kind { IfErr result (IsOfRows file) }
     ensures read { result ≡ Err refused.Read

@@ -60,12 +60,22 @@ fn write_file<F: Files, K: Sink>(
     requires chain { chain.is_chain body.now ≡ true }
     requires sound { chain.AreSound (chain.scanned body.now) }
 
-    ensures all { (s : Scanned) (bytes before : List ℕ) → chain.scanned body.now ≡ Some s → F.One.told source ≡ Some bytes → K.told sink.old ≡ Some before
-        → OnOk result (WroteAll body.now (file_items s.table s.kinds file (Some bytes)) before (K.told sink.new)) }
-    ensures met { (s : Scanned) (bytes before : List ℕ) (e : Refusal) (fault : ItemFault) → chain.scanned body.now ≡ Some s → F.One.told source ≡ Some bytes → K.told sink.old ≡ Some before
-        → result ≡ Err e → fault_named s.table e ≡ Some fault → WroteBefore body.now [] (file_items s.table s.kinds file (Some bytes)) before fault (K.told sink.new) }
-    ensures part { (s : Scanned) (bytes before : List ℕ) → chain.scanned body.now ≡ Some s → F.One.told source ≡ Some bytes → K.told sink.old ≡ Some before
-        → OnErr result (WrotePart body.now (file_items s.table s.kinds file (Some bytes)) before (K.told sink.new)) }
+    ensures all { (s : Scanned) (bytes before : List ℕ) → chain.scanned body.now ≡ Some s
+        → F.One.told source ≡ Some bytes → K.told sink.old ≡ Some before
+        → OnOk result
+        (WroteAll body.now (file_items s.table s.kinds file (Some bytes)) before
+        (K.told sink.new)) }
+    ensures met { (s : Scanned) (bytes before : List ℕ) (e : Refusal) (fault : ItemFault)
+        → chain.scanned body.now ≡ Some s → F.One.told source ≡ Some bytes
+        → K.told sink.old ≡ Some before
+        → result ≡ Err e → fault_named s.table e ≡ Some fault
+        → WroteBefore body.now [] (file_items s.table s.kinds file (Some bytes)) before fault
+        (K.told sink.new) }
+    ensures part { (s : Scanned) (bytes before : List ℕ) → chain.scanned body.now ≡ Some s
+        → F.One.told source ≡ Some bytes → K.told sink.old ≡ Some before
+        → OnErr result
+        (WrotePart body.now (file_items s.table s.kinds file (Some bytes)) before
+        (K.told sink.new)) }
 
     ensures kind { IfErr result (IsOfRows file) }
     ensures read { result ≡ Err refused.Read → Rose (F.faults files.old) (F.faults files.new) }
@@ -99,12 +109,21 @@ fn write_files<F: Files, K: Sink>(
     requires sound { chain.AreSound (chain.scanned body.now) }
     requires few { length opened.old.items < 2 ^ 32 }
 
-    ensures all { (s : Scanned) (contents : List (List ℕ)) (before : List ℕ) → chain.scanned body.now ≡ Some s → Tell (map F.One.told opened.old.items) contents → K.told sink.old ≡ Some before
-        → OnOk result (WroteAll body.now (concat (items_of_all s contents)) before (K.told sink.new)) }
-    ensures met { (s : Scanned) (contents : List (List ℕ)) (before : List ℕ) (e : Refusal) (fault : ItemFault) → chain.scanned body.now ≡ Some s → Tell (map F.One.told opened.old.items) contents → K.told sink.old ≡ Some before
-        → result ≡ Err e → fault_named s.table e ≡ Some fault → StopsIn body.now (items_of_all s contents) before e fault (K.told sink.new) }
-    ensures part { (s : Scanned) (contents : List (List ℕ)) (before : List ℕ) → chain.scanned body.now ≡ Some s → Tell (map F.One.told opened.old.items) contents → K.told sink.old ≡ Some before
-        → OnErr result (WrotePart body.now (concat (items_of_all s contents)) before (K.told sink.new)) }
+    ensures all { (s : Scanned) (contents : List (List ℕ)) (before : List ℕ)
+        → chain.scanned body.now ≡ Some s → Tell (map F.One.told opened.old.items) contents
+        → K.told sink.old ≡ Some before
+        → OnOk result
+        (WroteAll body.now (concat (items_of_all s contents)) before (K.told sink.new)) }
+    ensures met { (s : Scanned) (contents : List (List ℕ)) (before : List ℕ) (e : Refusal)
+        (fault : ItemFault) → chain.scanned body.now ≡ Some s
+        → Tell (map F.One.told opened.old.items) contents → K.told sink.old ≡ Some before
+        → result ≡ Err e → fault_named s.table e ≡ Some fault
+        → StopsIn body.now (items_of_all s contents) before e fault (K.told sink.new) }
+    ensures part { (s : Scanned) (contents : List (List ℕ)) (before : List ℕ)
+        → chain.scanned body.now ≡ Some s → Tell (map F.One.told opened.old.items) contents
+        → K.told sink.old ≡ Some before
+        → OnErr result
+        (WrotePart body.now (concat (items_of_all s contents)) before (K.told sink.new)) }
 
     ensures kind { IfErr result IsOfRun }
     ensures read { result ≡ Err refused.Read → Rose (F.faults files.old) (F.faults files.new) }
@@ -137,12 +156,23 @@ fn write_answer<F: Files, K: Sink>(
     requires sound { chain.AreSound (chain.scanned query.now.body) }
     requires few { length opened.old.items < 2 ^ 32 }
 
-    ensures all { (s : Scanned) (contents : List (List ℕ)) (before : List ℕ) → chain.scanned query.now.body ≡ Some s → Tell (map F.One.told opened.old.items) contents → K.told sink.old ≡ Some before
-        → OnOk result (WroteAll query.now.body (concat (items_of_all s contents)) (before ++ header_line query.now.names) (K.told sink.new)) }
-    ensures met { (s : Scanned) (contents : List (List ℕ)) (before : List ℕ) (e : Refusal) (fault : ItemFault) → chain.scanned query.now.body ≡ Some s → Tell (map F.One.told opened.old.items) contents → K.told sink.old ≡ Some before
-        → result ≡ Err e → fault_named s.table e ≡ Some fault → StopsIn query.now.body (items_of_all s contents) (before ++ header_line query.now.names) e fault (K.told sink.new) }
-    ensures part { (s : Scanned) (contents : List (List ℕ)) (before : List ℕ) → chain.scanned query.now.body ≡ Some s → Tell (map F.One.told opened.old.items) contents → K.told sink.old ≡ Some before
-        → OnErr result (BeganOver query.now (concat (items_of_all s contents)) before (K.told sink.new)) }
+    ensures all { (s : Scanned) (contents : List (List ℕ)) (before : List ℕ)
+        → chain.scanned query.now.body ≡ Some s → Tell (map F.One.told opened.old.items) contents
+        → K.told sink.old ≡ Some before
+        → OnOk result
+        (WroteAll query.now.body (concat (items_of_all s contents))
+        (before ++ header_line query.now.names) (K.told sink.new)) }
+    ensures met { (s : Scanned) (contents : List (List ℕ)) (before : List ℕ) (e : Refusal)
+        (fault : ItemFault) → chain.scanned query.now.body ≡ Some s
+        → Tell (map F.One.told opened.old.items) contents → K.told sink.old ≡ Some before
+        → result ≡ Err e → fault_named s.table e ≡ Some fault
+        → StopsIn query.now.body (items_of_all s contents) (before ++ header_line query.now.names)
+        e fault (K.told sink.new) }
+    ensures part { (s : Scanned) (contents : List (List ℕ)) (before : List ℕ)
+        → chain.scanned query.now.body ≡ Some s → Tell (map F.One.told opened.old.items) contents
+        → K.told sink.old ≡ Some before
+        → OnErr result
+        (BeganOver query.now (concat (items_of_all s contents)) before (K.told sink.new)) }
 
     ensures kind { IfErr result IsOfRun }
     ensures read { result ≡ Err refused.Read → Rose (F.faults files.old) (F.faults files.new) }
@@ -177,10 +207,27 @@ fn open_and_write<F: Files, K: Sink>(
     requires few { length paths.now < 2 ^ 32 }
     requires none { opened.old.items ≡ [] }
 
-    ensures ran { (scan : Scanned) (all : Contents) (before : List ℕ) → chain.scanned query.now.body ≡ Some scan → F.told files.old ≡ Some all → K.told sink.old ≡ Some before
-        → Ran (record { query = query.now; scan = scan; paths = paths.now; all = all; before = before }) (K.told sink.new) result }
-    ensures part { (scan : Scanned) (all : Contents) (before : List ℕ) → chain.scanned query.now.body ≡ Some scan → F.told files.old ≡ Some all → K.told sink.old ≡ Some before
-        → OnErr result (Began (record { query = query.now; scan = scan; paths = paths.now; all = all; before = before }) (K.told sink.new)) }
+    ensures ran { (scan : Scanned) (all : Contents) (before : List ℕ)
+        → chain.scanned query.now.body ≡ Some scan → F.told files.old ≡ Some all
+        → K.told sink.old ≡ Some before
+        → Ran (record {
+          query = query.now;
+          scan = scan;
+          paths = paths.now;
+          all = all;
+          before = before;
+        }) (K.told sink.new) result }
+    ensures part { (scan : Scanned) (all : Contents) (before : List ℕ)
+        → chain.scanned query.now.body ≡ Some scan → F.told files.old ≡ Some all
+        → K.told sink.old ≡ Some before
+        → OnErr result
+        (Began (record {
+          query = query.now;
+          scan = scan;
+          paths = paths.now;
+          all = all;
+          before = before;
+        }) (K.told sink.new)) }
     ensures read { result ≡ Err refused.Read → Rose (F.faults files.old) (F.faults files.new) }
     ensures write { result ≡ Err refused.Write → Rose (K.faults sink.old) (K.faults sink.new) }
     ensures missing { (f : ℕ) → result ≡ Err (refused.Missing f)
@@ -211,20 +258,56 @@ pub fn run_chain<F: Files, K: Sink>(
 
     // Where the files and the sink tell their bytes: what was written, and what the run refuses. After any refusal the sink holds
     // a beginning of the text of the names and of rows that the body gives.
-    ensures ran { (scan : Scanned) (all : Contents) (before : List ℕ) → chain.scanned query.now.body ≡ Some scan → F.told files.old ≡ Some all → K.told sink.old ≡ Some before
-        → Ran (record { query = query.now; scan = scan; paths = paths.now; all = all; before = before }) (K.told sink.new) result }
-    ensures part { (scan : Scanned) (all : Contents) (before : List ℕ) → chain.scanned query.now.body ≡ Some scan → F.told files.old ≡ Some all → K.told sink.old ≡ Some before
-        → OnErr result (Began (record { query = query.now; scan = scan; paths = paths.now; all = all; before = before }) (K.told sink.new)) }
+    ensures ran { (scan : Scanned) (all : Contents) (before : List ℕ)
+        → chain.scanned query.now.body ≡ Some scan → F.told files.old ≡ Some all
+        → K.told sink.old ≡ Some before
+        → Ran (record {
+          query = query.now;
+          scan = scan;
+          paths = paths.now;
+          all = all;
+          before = before;
+        }) (K.told sink.new) result }
+    ensures part { (scan : Scanned) (all : Contents) (before : List ℕ)
+        → chain.scanned query.now.body ≡ Some scan → F.told files.old ≡ Some all
+        → K.told sink.old ≡ Some before
+        → OnErr result
+        (Began (record {
+          query = query.now;
+          scan = scan;
+          paths = paths.now;
+          all = all;
+          before = before;
+        }) (K.told sink.new)) }
 
     // A fault that the refusal names is among those that the body meets over all tables that have these files.
-    ensures met { (scan : Scanned) (all : Contents) (before : List ℕ) (tables : Tables) → chain.scanned query.now.body ≡ Some scan → F.told files.old ≡ Some all → K.told sink.old ≡ Some before
-        → HasFiles (record { query = query.now; scan = scan; paths = paths.now; all = all; before = before }) tables → IsMet scan.table (all_faults tables query.now.body) result }
+    ensures met { (scan : Scanned) (all : Contents) (before : List ℕ) (tables : Tables)
+        → chain.scanned query.now.body ≡ Some scan → F.told files.old ≡ Some all
+        → K.told sink.old ≡ Some before
+        → HasFiles
+        (record {
+          query = query.now;
+          scan = scan;
+          paths = paths.now;
+          all = all;
+          before = before;
+        }) tables → IsMet scan.table (all_faults tables query.now.body) result }
 
     // Where all files are there, the body meets no fault, and no count rose, only memory may be wanting.
-    ensures complete { (scan : Scanned) (all : Contents) (before : List ℕ) (tables : Tables) → chain.scanned query.now.body ≡ Some scan → F.told files.old ≡ Some all → K.told sink.old ≡ Some before
-        → HasFiles (record { query = query.now; scan = scan; paths = paths.now; all = all; before = before }) tables
+    ensures complete { (scan : Scanned) (all : Contents) (before : List ℕ) (tables : Tables)
+        → chain.scanned query.now.body ≡ Some scan → F.told files.old ≡ Some all
+        → K.told sink.old ≡ Some before
+        → HasFiles
+        (record {
+          query = query.now;
+          scan = scan;
+          paths = paths.now;
+          all = all;
+          before = before;
+        }) tables
         → missing all paths.now ≡ None → all_faults tables query.now.body ≡ []
-        → ¬ (Rose (F.faults files.old) (F.faults files.new)) → ¬ (Rose (K.faults sink.old) (K.faults sink.new)) → IsOkOrMemory result }
+        → ¬ (Rose (F.faults files.old) (F.faults files.new))
+        → ¬ (Rose (K.faults sink.old) (K.faults sink.new)) → IsOkOrMemory result }
 
     // Told or not: what failed where an object is said to have failed or to lack a path.
     ensures read { result ≡ Err refused.Read → Rose (F.faults files.old) (F.faults files.new) }

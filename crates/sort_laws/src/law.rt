@@ -48,25 +48,32 @@ pub fn sort_law()
     ensures moves { (keys : List Key) (taken : List Cells)
         → IsPermutation taken (sort_rows keys taken) }
     ensures one { (keys : List Key) (taken given : List Cells)
-        → IsSorted (row_cmp keys) given → IsStable (row_cmp keys) taken given → given ≡ sort_rows keys taken }
+        → IsSorted (row_cmp keys) given → IsStable (row_cmp keys) taken given
+        → given ≡ sort_rows keys taken }
     ensures cut { (keys : List Key) (segments : List (List Cells))
-        → sort_rows keys (concat (map (sort_rows keys) segments)) ≡ sort_rows keys (concat segments) }
+        → sort_rows keys (concat (map (sort_rows keys) segments))
+        ≡ sort_rows keys (concat segments) }
     ensures split { (keys : List Key) (closed : List (List Cells)) (since taken : List Cells)
         → concat closed ++ since ≡ taken
-        → sort_rows keys (concat (map (sort_rows keys) closed ++ sort_rows keys since ∷ [])) ≡ sort_rows keys taken }
+        → sort_rows keys (concat (map (sort_rows keys) closed ++ sort_rows keys since ∷ []))
+        ≡ sort_rows keys taken }
     ensures more { (keys : List Key) (xs ys more : List Cells)
-        → sort_rows keys xs ≡ sort_rows keys ys → sort_rows keys (xs ++ more) ≡ sort_rows keys (ys ++ more) }
+        → sort_rows keys xs ≡ sort_rows keys ys
+        → sort_rows keys (xs ++ more) ≡ sort_rows keys (ys ++ more) }
     ensures part { (keys : List Key) (xs since : List Cells)
         → sort_rows keys (xs ++ sort_rows keys since) ≡ sort_rows keys (xs ++ since) }
-    ensures front { (keys : List Key) (runs : List (List Cells)) (i : ℕ) (row : Cells) (rest : List Cells)
+    ensures front
+        { (keys : List Key) (runs : List (List Cells)) (i : ℕ) (row : Cells) (rest : List Cells)
         → AreSorted keys runs → IsLeastFront keys runs i row rest
         → sort_rows keys (concat runs) ≡ row ∷ sort_rows keys (concat (slice_set runs i rest)) }
-    ensures left { (keys : List Key) (runs : List (List Cells)) (i : ℕ) (row : Cells) (rest : List Cells)
+    ensures left
+        { (keys : List Key) (runs : List (List Cells)) (i : ℕ) (row : Cells) (rest : List Cells)
         → AreSorted keys runs → run runs i ≡ row ∷ rest → AreSorted keys (slice_set runs i rest) }
     ensures over { (runs : List (List Cells)) → ((j : ℕ) → run runs j ≡ []) → concat runs ≡ [] }
     ensures merged { (keys : List Key) (runs : List (List Cells))
         → AreSorted keys runs
-        → rows (merge_items keys (length runs) (λ i. of_rows (run runs i))) ≡ sort_rows keys (concat runs) }
+        → rows (merge_items keys (length runs) (λ i. of_rows (run runs i)))
+        ≡ sort_rows keys (concat runs) }
     ensures items { (keys : List Key) (items : List Item)
         → (sort_items keys items ≡ sorted (item_before keys) items)
         × SameBag (sort_items keys items) items
@@ -98,7 +105,9 @@ pub fn merge_law()
     ensures items { (keys : List Key) (n : ℕ) (inputs : ℕ → List Item)
         → ((i : ℕ) → i < n → IsSortedBy (item_before keys) (inputs i))
         → merge_items keys n inputs ≡ sort_items keys (together n inputs) }
-    ensures goes_on { (before : Item → Item → Bool) (n : ℕ) (inputs more : ℕ → List Item) (over over2 : ℕ → Bool)
+    ensures goes_on
+        { (before : Item → Item → Bool) (n : ℕ) (inputs more : ℕ → List Item) (over over2 : ℕ
+        → Bool)
         → GoesOn over more over2
         → merge before n (grown inputs more) over2
         ≡ after (merge before n inputs over).given
@@ -122,11 +131,15 @@ pub fn limit_law()
 /// nodes give of the rows.
 pub fn nodes_law()
     ensures sorts { (h : Hashing) (d : Said) (keys : List Key) (n : ℕ) (inputs : ℕ → List Item)
-        → NodeGives h (Node.Sort (d, row_parts n inputs) keys) (row_parts n (λ i. sort_items keys (inputs i))) }
+        → NodeGives h (Node.Sort (d, row_parts n inputs) keys)
+        (row_parts n (λ i. sort_items keys (inputs i))) }
     ensures merges { (h : Hashing) (d : Said) (keys : List Key) (n : ℕ) (inputs : ℕ → List Item)
-        → NodeGives h (Node.Merge (d, row_parts n inputs) keys) (row_parts 1 (λ i. merge_items keys n inputs)) }
-    ensures limits { (h : Hashing) (d : Said) (skip : ℕ) (fetch : Option ℕ) (n : ℕ) (inputs : ℕ → List Item)
-        → NodeGives h (Node.Limit (d, row_parts n inputs) skip fetch) (row_parts n (λ i. cut skip fetch (inputs i))) }
+        → NodeGives h (Node.Merge (d, row_parts n inputs) keys)
+        (row_parts 1 (λ i. merge_items keys n inputs)) }
+    ensures limits { (h : Hashing) (d : Said) (skip : ℕ) (fetch : Option ℕ) (n : ℕ) (inputs : ℕ
+        → List Item)
+        → NodeGives h (Node.Limit (d, row_parts n inputs) skip fetch)
+        (row_parts n (λ i. cut skip fetch (inputs i))) }
 {}
 
 /// Lists of one bag are permutations of each other (`items`, `rows`). Lists with the same rows and
@@ -154,23 +167,27 @@ pub fn bag_law()
 /// just where no later one is before an earlier one (`in_order`, `sorted`).
 pub fn answer_law()
     ensures clean { (order : List Key) (offset : ℕ) (limit : Option ℕ) (out items : List Item)
-        → Alike out items → IsSorted (row_cmp order) (rows out) → faults (first_of offset limit out) ≡ []
+        → Alike out items → IsSorted (row_cmp order) (rows out)
+        → faults (first_of offset limit out) ≡ []
         → Allows order offset limit items (drop offset (rows (first_of offset limit out))) }
     ensures query { (q : Query) (tables : Tables) (out : List Item)
         → Alike out (body tables q.body) → IsSorted (row_cmp q.order) (rows out)
         → faults (first_of q.offset q.limit out) ≡ []
         → Allowed q tables (drop q.offset (rows (first_of q.offset q.limit out))) }
-    ensures limit { (order : List Key) (skip : ℕ) (fetch : Option ℕ) (t : Told) (out items : List Item)
+    ensures limit
+        { (order : List Key) (skip : ℕ) (fetch : Option ℕ) (t : Told) (out items : List Item)
         → Reads (t.taken 0) (t.ended 0) out → (limit_op skip fetch).is_complete t ≡ true
         → Alike out items → IsSorted (row_cmp order) (rows out)
         → Allows order skip fetch items (rows ((limit_op skip fetch).items t)) }
     ensures all { (order : List Key) (given : List Cells) (items : List Item)
-        → Alike (of_rows given) items → IsSorted (row_cmp order) given → Allows order 0 None items given }
+        → Alike (of_rows given) items → IsSorted (row_cmp order) given
+        → Allows order 0 None items given }
     ensures none { (order : List Key) (offset : ℕ) (items : List Item)
         → Allows order offset (Some 0) items [] }
     ensures resorted { (order : List Key) (offset : ℕ) (limit : Option ℕ) (items : List Item)
         (answer other : List Cells)
-        → Allows order offset limit items answer → IsPermutation answer other → IsSorted (row_cmp order) other
+        → Allows order offset limit items answer → IsPermutation answer other
+        → IsSorted (row_cmp order) other
         → Allows order offset limit items other }
     ensures unordered { (rs : List Cells) → IsSorted (row_cmp []) rs }
     ensures in_order { (keys : List Key) (rs : List Cells) → InOrder keys rs
@@ -186,13 +203,16 @@ pub fn answer_law()
 /// A sort at the root gives what its input gave, sorted (`sort`); and where that is allowed, it is
 /// so too, if it stands in the query's order (`above`).
 pub fn root_law()
-    ensures limit { (order : List Key) (skip : ℕ) (fetch : Option ℕ) (size : ℕ) (past : Past (List Cells))
+    ensures limit
+        { (order : List Key) (skip : ℕ) (fetch : Option ℕ) (size : ℕ) (past : Past (List Cells))
         (full : ℕ → ℕ → List Item) (t : Told) (d : Desk) (inputs : ℕ → Tree) (items : List Item)
         → IsLinked size past (Over (limit_op skip fetch) t d inputs) → IsWhole size full (inputs 0)
         → poll size (Over (limit_op skip fetch) t d inputs) ≡ Ends
-        → Alike (whole full (inputs 0)) items → IsSorted (row_cmp order) (rows (whole full (inputs 0)))
+        → Alike (whole full (inputs 0)) items
+        → IsSorted (row_cmp order) (rows (whole full (inputs 0)))
         → Allows order skip fetch items d.gave }
-    ensures all { (order : List Key) (size : ℕ) (full : ℕ → ℕ → List Item) (root : Tree) (items : List Item)
+    ensures all
+        { (order : List Key) (size : ℕ) (full : ℕ → ℕ → List Item) (root : Tree) (items : List Item)
         → IsWhole size full root → poll size root ≡ Ends
         → Alike (whole full root) items → IsSorted (row_cmp order) (rows (whole full root))
         → Allows order 0 None items (gave_of root) }
@@ -201,7 +221,8 @@ pub fn root_law()
         → IsLinked size past (Over (end_op (sort_items keys) amount consumer) t d inputs)
         → poll size (Over (end_op (sort_items keys) amount consumer) t d inputs) ≡ Ends
         → (poll size (inputs 0) ≡ Ends) × (d.gave ≡ sort_rows keys (gave_of (inputs 0))) }
-    ensures above { (keys order : List Key) (offset : ℕ) (limit : Option ℕ) (items : List Item) (answer : List Cells)
+    ensures above { (keys order : List Key) (offset : ℕ) (limit : Option ℕ) (items : List Item)
+        (answer : List Cells)
         → Allows order offset limit items answer → IsSorted (row_cmp order) (sort_rows keys answer)
         → Allows order offset limit items (sort_rows keys answer) }
 {}

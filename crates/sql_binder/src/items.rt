@@ -44,7 +44,11 @@ fn kind_of_key(kinds: &[Kind], at: usize) -> Kind
 /// A column itself.
 fn own_column(alloc: Global, column: &Column, number: usize) -> Result<Output, NoMemory>
     ensures { IfOk result
-        (λ o. o ≡ record { name = column.now.name; expr = expr.Column number; kind = column.now.kind }) }
+        (λ o. o ≡ record {
+          name = column.now.name;
+          expr = expr.Column number;
+          kind = column.now.kind;
+        }) }
 {
     Ok(Output {
         name: column.name.copy(alloc)?,

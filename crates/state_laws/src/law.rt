@@ -23,9 +23,13 @@ ghost use Rattle.state_laws.specs.Good.{Good};
 /// Every state that a finished plan's run reaches is good, also one in which the run has failed, whatever the batch size
 /// and the limit are.
 pub fn good_law()
-    ensures { (h : Hashing) (f : Doing) (tables : Tables) (n : ℕ) (phases : Phases) → IsEngineBy h f tables n phases
-        → (q : AQuery) → has_distincts tables q.body ≡ true → (files : List ℕ) → is_known tables files q.body ≡ true
-        → 0 < n → (p : APlan) → IsFinished (build q files n) q.order n p → everywhere needs_in_range p ≡ true
+    ensures { (h : Hashing) (f : Doing) (tables : Tables) (n : ℕ) (phases : Phases)
+        → IsEngineBy h f tables n phases
+        → (q : AQuery) → has_distincts tables q.body ≡ true → (files : List ℕ)
+        → is_known tables files q.body ≡ true
+        → 0 < n → (p : APlan) → IsFinished (build q files n) q.order n p
+        → everywhere needs_in_range p ≡ true
         → (size limit : ℕ) (entries : List Entry) (s : State)
-        → IsReached (shape p) size limit (start_of f p limit) entries s → Good size h f tables phases p s }
+        → IsReached (shape p) size limit (start_of f p limit) entries s
+        → Good size h f tables phases p s }
 {}

@@ -50,7 +50,8 @@ pub fn task_law()
 /// told, its senders have ended; and what was sent to a channel is a front of the parts for it.
 pub fn run_law()
     ensures { (p : Shape) (size steps limit : ℕ) (start s : State) (entries : List Entry)
-        → IsShape p → IsStart p size limit start → state_replay p size steps (Some start) entries ≡ Some s
+        → IsShape p → IsStart p size limit start → state_replay p size steps (Some start) entries
+        ≡ Some s
         → IsReached p size limit start entries s }
 {}
 
@@ -65,7 +66,8 @@ pub fn kinds_law()
         (consumer : Option ℕ)
         → IsOp (segment_op f amount consumer) }
     ensures limit { (skip : ℕ) (fetch : Option ℕ) → IsOp (limit_op skip fetch) }
-    ensures join { (probe : List Item → Item → List Item) (last : List Item → List Item → List Item) (amount : Told → List Cells → ℕ) (consumer : Option ℕ)
+    ensures join { (probe : List Item → Item → List Item) (last : List Item → List Item
+        → List Item) (amount : Told → List Cells → ℕ) (consumer : Option ℕ)
         → IsOp (join_op probe last amount consumer) }
     ensures merge { (before : Item → Item → Bool) (n : ℕ) → IsOp (merge_op before n) }
 {}
@@ -96,7 +98,8 @@ pub fn leads_law()
     ensures one { (p : Shape) (size : ℕ) (start s new : State) (entries : List Entry)
         → Leads p size start entries s → Leads p size start entries new → s ≡ new }
     ensures on { (p : Shape) (size : ℕ) (start s new : State) (entries more : List Entry)
-        → Leads p size start entries s → Leads p size s more new → Leads p size start (entries ++ more) new }
+        → Leads p size start entries s → Leads p size s more new
+        → Leads p size start (entries ++ more) new }
     ensures front { (p : Shape) (size : ℕ) (start new : State) (entries more : List Entry)
         → Leads p size start (entries ++ more) new
         → (s : State) × Leads p size start entries s × Leads p size s more new }
@@ -122,27 +125,32 @@ pub fn batches_law()
 /// their task has finished (`pooled`), and a need to give back names just that (`freed`).
 pub fn held_law()
     ensures polled { (size : ℕ) (past : Past (List Cells)) (t : Tree)
-        → IsLinked size past t → IsApart t → IsHolding (kept_in past) t → KeepsHeld past (poll size t) }
+        → IsLinked size past t → IsApart t → IsHolding (kept_in past) t
+        → KeepsHeld past (poll size t) }
     ensures settled { (size steps : ℕ) (past : Past (List Cells)) (k : Task) (w : Wait)
         → IsTask size past k → IsApart k.tree → IsHolding (kept_in past) k.tree
         → settle size steps k ≡ Some w → WaitHolds past w }
     ensures reached { (p : Shape) (size steps limit : ℕ) (start s : State) (entries : List Entry)
         → IsShape p → IsStart p size limit start
-        → ((t : ℕ) → IsApart (the_task start.tasks t).tree × IsHolding (λ c. 0) (the_task start.tasks t).tree)
+        → ((t : ℕ) → IsApart (the_task start.tasks t).tree
+        × IsHolding (λ c. 0) (the_task start.tasks t).tree)
         → state_replay p size steps (Some start) entries ≡ Some s
         → (t : ℕ) → IsHolding (kept_in (past_of s.run.pasts t)) (the_task s.tasks t).tree }
     ensures pooled { (p : Shape) (size steps limit : ℕ) (start s : State) (entries : List Entry)
         → IsShape p → HasOwners p → IsStart p size limit start
-        → ((t : ℕ) → IsApart (the_task start.tasks t).tree × IsHolding (λ c. 0) (the_task start.tasks t).tree)
+        → ((t : ℕ) → IsApart (the_task start.tasks t).tree
+        × IsHolding (λ c. 0) (the_task start.tasks t).tree)
         → state_replay p size steps (Some start) entries ≡ Some s
         → (t : ℕ) → unfinished (place_of s.run.frame t) ≡ true
         → IsHolding (held_by s.run.frame.pool) (the_task s.tasks t).tree }
     ensures freed { (p : Shape) (size steps limit : ℕ) (start s : State) (entries : List Entry)
         → IsShape p → HasOwners p → IsStart p size limit start
-        → ((t : ℕ) → IsApart (the_task start.tasks t).tree × IsHolding (λ c. 0) (the_task start.tasks t).tree)
+        → ((t : ℕ) → IsApart (the_task start.tasks t).tree
+        × IsHolding (λ c. 0) (the_task start.tasks t).tree)
         → state_replay p size steps (Some start) entries ≡ Some s
         → (t turns : ℕ) (w : Wait) → unfinished (place_of s.run.frame t) ≡ true
-        → settle size turns (the_task s.tasks t) ≡ Some w → FreesAll (held_by s.run.frame.pool) w.need }
+        → settle size turns (the_task s.tasks t) ≡ Some w
+        → FreesAll (held_by s.run.frame.pool) w.need }
 {}
 
 /// How a task's output leaves it. A need to send comes only of a task with a split (`sends`), and one to write only
@@ -150,16 +158,23 @@ pub fn held_law()
 /// a run: those of a need to send are of tasks with a split (`sent`), and those of writes of tasks without one
 /// (`wrote`).
 pub fn exits_law()
-    ensures sends { (size steps : ℕ) (past : Past (List Cells)) (k : Task) (w : Wait) (c : ℕ) (b : List Cells)
-        → IsTask size past k → settle size steps k ≡ Some w → w.need ≡ Send c b → is_some k.split ≡ true }
+    ensures sends { (size steps : ℕ) (past : Past (List Cells)) (k : Task) (w : Wait) (c : ℕ)
+        (b : List Cells)
+        → IsTask size past k → settle size steps k ≡ Some w → w.need ≡ Send c b
+        → is_some k.split ≡ true }
     ensures writes { (size steps : ℕ) (past : Past (List Cells)) (k : Task) (w : Wait)
-        → IsTask size past k → HeadsOwn k → settle size steps k ≡ Some w → w.need ≡ Writes → k.split ≡ None }
-    ensures sent { (p : Shape) (size steps limit : ℕ) (start s next : State) (entries : List Entry) (e : Entry)
+        → IsTask size past k → HeadsOwn k → settle size steps k ≡ Some w → w.need ≡ Writes
+        → k.split ≡ None }
+    ensures sent { (p : Shape) (size steps limit : ℕ) (start s next : State) (entries : List Entry)
+        (e : Entry)
         → IsShape p → IsStart p size limit start
-        → state_replay p size steps (Some start) entries ≡ Some s → state_step p size steps s e ≡ Some next
+        → state_replay p size steps (Some start) entries ≡ Some s
+        → state_step p size steps s e ≡ Some next
         → is_of_send e.kind ≡ true → is_some (the_task start.tasks e.task).split ≡ true }
-    ensures wrote { (p : Shape) (size steps limit : ℕ) (start s next : State) (entries : List Entry) (e : Entry)
+    ensures wrote { (p : Shape) (size steps limit : ℕ) (start s next : State) (entries : List Entry)
+        (e : Entry)
         → IsShape p → IsStart p size limit start → ((t : ℕ) → HeadsOwn (the_task start.tasks t))
-        → state_replay p size steps (Some start) entries ≡ Some s → state_step p size steps s e ≡ Some next
+        → state_replay p size steps (Some start) entries ≡ Some s
+        → state_step p size steps s e ≡ Some next
         → e.kind ≡ Wrote → (the_task start.tasks e.task).split ≡ None }
 {}

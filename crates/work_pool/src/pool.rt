@@ -30,7 +30,8 @@ fn claim_once<R: Wait, W: Work>(
     ensures answer { (o : W.Opening) × (opening_of seat.new ≡ Some o) × OnClaim result.0
         (λ job. W.fits job (number_of seat.new) o (seen_of seat.new))
         (loan_of (number_of seat.new) (seen_of seat.new) ≡ None)
-        ((loan_of (number_of seat.new) (seen_of seat.new) ≡ None) × W.over o (journal_of (seen_of seat.new))) }
+        ((loan_of (number_of seat.new) (seen_of seat.new) ≡ None)
+        × W.over o (journal_of (seen_of seat.new))) }
 {
     let mut work = cell.take(rt, seat);
     let answer = work.claim(seat.number());
@@ -145,7 +146,8 @@ fn run_each<R: Threads + Wait + Sync, W: Work, G: KernelGate>(
         → IsNew cell.now (W.opened (first_value cell.now)) k (slice_index_or seats.items k d) }
     ensures len { length result.items ≡ length seats.items }
     ensures each { (k : ℕ) (d : _) → k < length seats.items
-        → HasEnded W.over cell.now (W.opened (first_value cell.now)) k (slice_index_or result.items k d) }
+        → HasEnded W.over cell.now (W.opened (first_value cell.now)) k
+        (slice_index_or result.items k d) }
 {
     let run = |at: usize, seat: &mut Seat<W>|
         requires { IsNew cell.now (W.opened (first_value cell.now)) at seat.now }
