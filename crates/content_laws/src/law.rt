@@ -55,8 +55,8 @@ pub fn full_law()
 /// task alone sends to a group, in order, each of its channels has some of what that task would give, in its order
 /// (`ordered`).
 pub fn exchange_law()
-    ensures exchanged
-        { (p : Shape) (size limit : ℕ) (start s : State) (entries : List Entry) (deal : ℕ
+    ensures exchanged { (p : Shape) (size limit : ℕ) (start s : State) (entries : List Entry)
+        (deal : ℕ
         → Deal) (full : ℕ → ℕ → List Item)
         → IsShape p → IsStart p size limit start → IsReached p size limit start entries s
         → AreSenders p start.tasks deal
@@ -78,8 +78,8 @@ pub fn exchange_law()
         → AreFull p s deal full
         → (u g c : ℕ) → IsOnlySender p start.tasks deal u g c
         → full g c ≡ whole full (tree_in s u) }
-    ensures ordered
-        { (p : Shape) (size limit : ℕ) (start s : State) (entries : List Entry) (deal : ℕ
+    ensures ordered { (p : Shape) (size limit : ℕ) (start s : State) (entries : List Entry)
+        (deal : ℕ
         → Deal) (full : ℕ → ℕ → List Item)
         → IsShape p → IsStart p size limit start → IsReached p size limit start entries s
         → AreSenders p start.tasks deal

@@ -40,8 +40,11 @@ impl Model for Pool {
 
     ghost Value = { Pool };
 
-    ghost view =
-        { λ p. record { limit = p.limit; spillable = p.spillable.items; held = p.held.items } };
+    ghost view = { λ p. record {
+      limit = p.limit;
+      spillable = p.spillable.items;
+      held = p.held.items;
+    } };
 
     ghost invariant = { λ p. IsTallied p.limit p.spillable.items p.held.items
         p.in_all p.unspillable p.spillables };

@@ -36,32 +36,32 @@ ghost use Rattle.join_laws.specs.States.{Join, op_of, JoinState, at_start, accep
 /// Each row of a partition is one that a join's node may give (`rows`, `node`), and of the kinds of
 /// its columns (`kinds`).
 pub fn join_law()
-    ensures one
-        { (kind : Kept) (left_width right_width : ℕ) (keys : List (ℕ × ℕ)) (rest : Option Expr)
+    ensures one { (kind : Kept) (left_width right_width : ℕ) (keys : List (ℕ × ℕ))
+        (rest : Option Expr)
         (ls rs : List Item)
         → SameBag (join_items kind left_width right_width keys rest ls rs)
         (joined kind left_width right_width keys rest ls rs) }
-    ensures whole
-        { (kind : Kept) (left_width right_width : ℕ) (keys : List (ℕ × ℕ)) (rest : Option Expr)
+    ensures whole { (kind : Kept) (left_width right_width : ℕ) (keys : List (ℕ × ℕ))
+        (rest : Option Expr)
         (amount : Told → List Cells → ℕ) (consumer : Option ℕ) (t : Told) (inputs : ℕ → List Item)
         → (hash_join kind left_width right_width keys rest amount consumer).whole t inputs
         ≡ join_items kind left_width right_width keys rest (inputs 0) (inputs 1) }
-    ensures parts
-        { (kind : Kept) (left_width right_width : ℕ) (keys : List (ℕ × ℕ)) (rest : Option Expr)
+    ensures parts { (kind : Kept) (left_width right_width : ℕ) (keys : List (ℕ × ℕ))
+        (rest : Option Expr)
         (ls rs : List Item) (n : ℕ) (lefts rights : ℕ → List Item)
         → Alike (together n lefts) ls → Alike (together n rights) rs
         → AreMatched keys n lefts rights
         → Alike (joined_parts kind left_width right_width keys rest n lefts rights)
         (joined kind left_width right_width keys rest ls rs) }
-    ensures same
-        { (kind : Kept) (left_width right_width : ℕ) (keys : List (ℕ × ℕ)) (rest : Option Expr)
+    ensures same { (kind : Kept) (left_width right_width : ℕ) (keys : List (ℕ × ℕ))
+        (rest : Option Expr)
         (ls rs : List Item) (n : ℕ) (lefts rights : ℕ → List Item)
         → SameBag (together n lefts) ls → SameBag (together n rights) rs
         → AreMatched keys n lefts rights
         → SameBag (joined_parts kind left_width right_width keys rest n lefts rights)
         (joined kind left_width right_width keys rest ls rs) }
-    ensures faults
-        { (kind : Kept) (left_width right_width : ℕ) (keys : List (ℕ × ℕ)) (rest : Option Expr)
+    ensures faults { (kind : Kept) (left_width right_width : ℕ) (keys : List (ℕ × ℕ))
+        (rest : Option Expr)
         (ls rs : List Item) (n : ℕ) (lefts rights : ℕ → List Item) (test : ItemFault → Bool)
         → Alike (together n lefts) ls → Alike (together n rights) rs
         → AreMatched keys n lefts rights
@@ -76,19 +76,19 @@ pub fn join_law()
         → AreMatched keys n lefts rights }
     ensures single { (keys : List (ℕ × ℕ)) (lefts rights : ℕ → List Item)
         → AreMatched keys 1 lefts rights }
-    ensures rows
-        { (kind : Kept) (left_width right_width : ℕ) (keys : List (ℕ × ℕ)) (rest : Option Expr)
+    ensures rows { (kind : Kept) (left_width right_width : ℕ) (keys : List (ℕ × ℕ))
+        (rest : Option Expr)
         (n : ℕ) (lefts rights : ℕ → List Item)
         → Joined (JoinRow kind keys left_width right_width) (row_parts n lefts) (row_parts n rights)
         (row_parts n (λ i. join_items kind left_width right_width keys rest (lefts i) (rights i))) }
-    ensures node
-        { (h : Hashing) (left right : Said) (kind : Kept) (keys : List (ℕ × ℕ)) (rest : Option Expr)
+    ensures node { (h : Hashing) (left right : Said) (kind : Kept) (keys : List (ℕ × ℕ))
+        (rest : Option Expr)
         (n : ℕ) (lefts rights : ℕ → List Item)
         → NodeGives h
         (Node.HashJoin kind (left, row_parts n lefts) (right, row_parts n rights) keys rest)
         (row_parts n (λ i. join_items kind left.width right.width keys rest (lefts i) (rights i))) }
-    ensures kinds
-        { (kind : Kept) (left right : List Kind) (keys : List (ℕ × ℕ)) (rest : Option Expr)
+    ensures kinds { (kind : Kept) (left right : List Kind) (keys : List (ℕ × ℕ))
+        (rest : Option Expr)
         (ls rs : List Item)
         → AllPass (are_of left) (rows ls) → AllPass (are_of right) (rows rs)
         → AllPass (are_of (left ++ right))

@@ -36,13 +36,13 @@ pub fn node_laws()
         → Meets h (repartitioned (ByHash cs n) d).props outs }
     ensures union { (h : Hashing) (ds : List Said) (ps : List (List (List Row)))
         → AllMeet h ds ps → Meets h (united ds).props (united_parts ps) }
-    ensures left
-        { (h : Hashing) (keys : List (ℕ × ℕ)) (d e : Said) (lefts rights outs : List (List Row))
+    ensures left { (h : Hashing) (keys : List (ℕ × ℕ)) (d e : Said)
+        (lefts rights outs : List (List Row))
         → Sides h keys d lefts → Meets h d.props lefts
         → Joined (LeftRow keys e.width) lefts rights outs
         → Meets h (hash_joined LeftJoin keys d e).props outs }
-    ensures inner
-        { (h : Hashing) (keys : List (ℕ × ℕ)) (d e : Said) (lefts rights outs : List (List Row))
+    ensures inner { (h : Hashing) (keys : List (ℕ × ℕ)) (d e : Said)
+        (lefts rights outs : List (List Row))
         → Sides h keys d lefts → Meets h d.props lefts → Meets h e.props rights
         → Joined (InnerRow keys) lefts rights outs
         → Meets h (hash_joined InnerJoin keys d e).props outs }
@@ -52,32 +52,32 @@ pub fn node_laws()
         → Begun whole outs → Meets h d.props whole → Meets h d.props outs }
     ensures coalesce { (h : Hashing) (d : Said) (ins outs : List (List Row))
         → Dealt 1 ins outs → Meets h d.props ins → Meets h (merged [] d).props outs }
-    ensures merge
-        { (h : Hashing) (keys : List Key) (d : Said) (ins : List (List Row)) (out : List Row)
+    ensures merge { (h : Hashing) (keys : List Key) (d : Said) (ins : List (List Row))
+        (out : List Row)
         → AllInOrder keys ins → Merges keys ins out → Meets h d.props ins
         → Meets h (merged keys d).props (out ∷ []) }
-    ensures in_order
-        { (h : Hashing) (keys : List Key) (d : Said) (ins : List (List Row)) (out : List Row)
+    ensures in_order { (h : Hashing) (keys : List Key) (d : Said) (ins : List (List Row))
+        (out : List Row)
         → Each (HoldsIn ins) out → InOrder keys out → Meets h d.props ins
         → Meets h (merged keys d).props (out ∷ []) }
     ensures deal { (h : Hashing) (n : ℕ) (d : Said) (ins outs : List (List Row))
         → Dealt n ins outs → Meets h d.props ins
         → Meets h (repartitioned (ByTurns n) d).props outs }
-    ensures partial_group
-        { (h : Hashing) (width : ℕ) (keys : List ℕ) (d : Said) (ins outs : List (List Row))
+    ensures partial_group { (h : Hashing) (width : ℕ) (keys : List ℕ) (d : Said)
+        (ins outs : List (List Row))
         → PartGroups keys ins outs → Meets h d.props ins
         → Meets h (grouped width keys d).props outs }
-    ensures final_group
-        { (h : Hashing) (width n : ℕ) (keys : List ℕ) (d : Said) (ins outs : List (List Row))
+    ensures final_group { (h : Hashing) (width n : ℕ) (keys : List ℕ) (d : Said)
+        (ins outs : List (List Row))
         → Delivers h (group_need keys n) ins → Groups keys ins outs → Meets h d.props ins
         → Meets h (grouped width keys d).props outs }
-    ensures right
-        { (h : Hashing) (keys : List (ℕ × ℕ)) (d e : Said) (lefts rights outs : List (List Row))
+    ensures right { (h : Hashing) (keys : List (ℕ × ℕ)) (d e : Said)
+        (lefts rights outs : List (List Row))
         → RightSides h keys d lefts rights → Meets h d.props lefts → Meets h e.props rights
         → Joined (RightRow keys d.width) lefts rights outs
         → Meets h (hash_joined RightJoin keys d e).props outs }
-    ensures full
-        { (h : Hashing) (keys : List (ℕ × ℕ)) (d e : Said) (lefts rights outs : List (List Row))
+    ensures full { (h : Hashing) (keys : List (ℕ × ℕ)) (d e : Said)
+        (lefts rights outs : List (List Row))
         → Meets h d.props lefts
         → Joined (FullRow keys d.width e.width) lefts rights outs
         → Meets h (hash_joined FullJoin keys d e).props outs }

@@ -57,8 +57,8 @@ pub fn two_phases_law()
         → AreApart keys n parts
         → Alike (together n (λ i. final keys calls kinds (parts i)))
         (final keys calls kinds items) }
-    ensures kinds
-        { (columns : List ℕ) (calls : List AggCall) (kinds : List Kind) (segment : List Item)
+    ensures kinds { (columns : List ℕ) (calls : List AggCall) (kinds : List Kind)
+        (segment : List Item)
         → AllPass (are_of kinds) (rows segment)
         → AllPass (are_of (phase_kinds columns calls kinds))
         (rows (phase columns calls kinds segment)) }
@@ -95,8 +95,8 @@ pub fn states_law()
     ensures updated { (call : AggCall) (values : List Value) (value : Value)
         → joined call (state_of call values) (state_of call (value ∷ []))
         ≡ state_of call (values ++ value ∷ []) }
-    ensures combined
-        { (call : AggCall) (kind : Option Kind) (values others : List Value) (rest : Cells)
+    ensures combined { (call : AggCall) (kind : Option Kind) (values others : List Value)
+        (rest : Cells)
         → joined call (state_of call values)
         (read call (cells_of call kind (state_of call others) ++ rest))
         ≡ state_of call (values ++ others) }
@@ -107,18 +107,18 @@ pub fn states_law()
 /// The rows of the first phase (`first`), and the items of the second with keys (`second`) and
 /// without (`one`), are what a table of states gives that takes one row after the other.
 pub fn tables_law()
-    ensures first
-        { (columns : List ℕ) (calls : List AggCall) (kinds : List Kind) (rows : List Cells)
+    ensures first { (columns : List ℕ) (calls : List AggCall) (kinds : List Kind)
+        (rows : List Cells)
         → map (state_row calls kinds)
         (table (key_list columns) (starts calls) (with_row calls) rows)
         ≡ phase_rows columns calls kinds rows }
-    ensures second
-        { (keys : List ℕ) (n : ℕ) (calls : List AggCall) (kinds : List Kind) (rows : List Cells)
+    ensures second { (keys : List ℕ) (n : ℕ) (calls : List AggCall) (kinds : List Kind)
+        (rows : List Cells)
         → map (finished_item n calls kinds)
         (table (key_list keys) (starts calls) (with_cells_behind n calls) rows)
         ≡ grouped (key_list keys) (final_item n calls kinds) rows }
-    ensures one
-        { (n : ℕ) (calls : List AggCall) (kinds : List Kind) (keys : Cells) (rows : List Cells)
+    ensures one { (n : ℕ) (calls : List AggCall) (kinds : List Kind) (keys : Cells)
+        (rows : List Cells)
         → finished_item n calls kinds (keys, fold (with_cells_behind n calls) (starts calls) rows)
         ≡ final_item n calls kinds keys rows }
 {}

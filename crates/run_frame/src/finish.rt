@@ -19,8 +19,8 @@ where
     B: Drop,
     requires leaves { Leaves groups.old.items woken.old receives.now }
 
-    ensures frame
-        { (pool : APool) (places : List APlace) (progress : List Bool) (failure : Option ACause)
+    ensures frame { (pool : APool) (places : List APlace) (progress : List Bool)
+        (failure : Option ACause)
         → frame_of groups.new.items pool woken.new.tasks places progress failure
         ≡ drops receives.now
         (frame_of groups.old.items pool woken.old.tasks places progress failure) }
@@ -36,8 +36,8 @@ where
 fn end_senders<B>(groups: &mut Vec<Group<B>>, woken: &mut Woken, group: u32, targets: &[u32])
     requires ends { EndsSenders groups.old.items woken.old group targets.now }
 
-    ensures frame
-        { (pool : APool) (places : List APlace) (progress : List Bool) (failure : Option ACause)
+    ensures frame { (pool : APool) (places : List APlace) (progress : List Bool)
+        (failure : Option ACause)
         → frame_of groups.new.items pool woken.new.tasks places progress failure
         ≡ ends_in group targets.now
         (frame_of groups.old.items pool woken.old.tasks places progress failure) }
@@ -59,8 +59,8 @@ fn end_as_sender<B>(
     requires ends { (g : ℕ) → sends ≡ Some g
         → EndsSenders groups.old.items woken.old g targets.now }
 
-    ensures frame
-        { (pool : APool) (places : List APlace) (progress : List Bool) (failure : Option ACause)
+    ensures frame { (pool : APool) (places : List APlace) (progress : List Bool)
+        (failure : Option ACause)
         → frame_of groups.new.items pool woken.new.tasks places progress failure
         ≡ ends sends targets.now
         (frame_of groups.old.items pool woken.old.tasks places progress failure) }

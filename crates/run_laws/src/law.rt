@@ -36,8 +36,8 @@ pub fn told_law<B>()
         → asks_nothing e.kind ≡ false
         → Settles size (the_task s.tasks e.task) w → w.need ≡ map_need rows need
         → Leads p size s (e ∷ []) (answered rows s e w new (reply_of p f e.task e.kind need)) }
-    ensures unanswered
-        { (rows : B → List Cells) (p : Shape) (size : ℕ) (s : State) (f new : Frame B)
+    ensures unanswered { (rows : B → List Cells) (p : Shape) (size : ℕ) (s : State)
+        (f new : Frame B)
         (e : Entry) (need : Need B)
         → s.run.frame ≡ map_frame rows f → frame_step p f e need ≡ Some new
         → asks_nothing e.kind ≡ true
@@ -66,8 +66,8 @@ pub fn owner_law()
     ensures entries { (p : Shape) (size : ℕ) (s new : State) (entries : List Entry) (w t : ℕ)
         → IsLawful p s.run.frame → place_of s.run.frame t ≡ OwnedBy w → entries_by w entries ≡ []
         → Leads p size s entries new → IsLeft w t s new }
-    ensures follows
-        { (p : Shape) (size : ℕ) (start s new : State) (before after : List Entry) (w t : ℕ)
+    ensures follows { (p : Shape) (size : ℕ) (start s new : State) (before after : List Entry)
+        (w t : ℕ)
         → IsLawful p s.run.frame → place_of s.run.frame t ≡ OwnedBy w
         → Leads p size start before s → Leads p size start after new → JournalFollows w before after
         → IsLeft w t s new }
@@ -123,8 +123,8 @@ pub fn start_law()
 pub fn kept_law<B>()
     ensures begun { (p : Shape) (limit : ℕ) → IsShape p
         → IsRun {B = B} p limit [] (opening p limit) }
-    ensures made
-        { (p : Shape) (limit : ℕ) (acts : List Act) (f new : Frame B) (e : Entry) (need : Need B)
+    ensures made { (p : Shape) (limit : ℕ) (acts : List Act) (f new : Frame B) (e : Entry)
+        (need : Need B)
         → IsShape p → IsRun p limit acts f → IsOwn p e.task need → frame_step p f e need ≡ Some new
         → IsRun p limit (acts ++ Made e ∷ []) new }
     ensures returned { (p : Shape) (limit : ℕ) (acts : List Act) (f : Frame B) (w t : ℕ)
@@ -137,16 +137,16 @@ pub fn kept_law<B>()
 pub fn kept_told_law<B>()
     ensures begun { (rows : B → List Cells) (p : Shape) (size limit : ℕ) (start : State)
         → IsStart p size limit start → IsToldRun rows p size start [] (opening p limit) }
-    ensures unanswered
-        { (rows : B → List Cells) (p : Shape) (size : ℕ) (start : State) (acts : List Act)
+    ensures unanswered { (rows : B → List Cells) (p : Shape) (size : ℕ) (start : State)
+        (acts : List Act)
         (f new : Frame B) (e : Entry) (need : Need B)
         → IsToldRun rows p size start acts f → frame_step p f e need ≡ Some new
         → asks_nothing e.kind ≡ true
         → IsToldRun rows p size start (acts ++ Made e ∷ []) new
         × ((t : ℕ) (k : Task) → TaskIs p size start acts t k
         → TaskIs p size start (acts ++ Made e ∷ []) t k) }
-    ensures answered
-        { (rows : B → List Cells) (p : Shape) (size limit : ℕ) (start : State) (acts : List Act)
+    ensures answered { (rows : B → List Cells) (p : Shape) (size limit : ℕ) (start : State)
+        (acts : List Act)
         (f new : Frame B) (e : Entry) (need : Need B) (k : Task) (w : Wait)
         → IsShape p → IsStart p size limit start → IsToldRun rows p size start acts f
         → TaskIs p size start acts e.task k → Settles size k w → w.need ≡ map_need rows need
@@ -154,8 +154,8 @@ pub fn kept_told_law<B>()
         → IsToldRun rows p size start (acts ++ Made e ∷ []) new
         × TaskIs p size start (acts ++ Made e ∷ []) e.task
         (task_after w (option_map (map_reply rows) (reply_of p f e.task e.kind need))) }
-    ensures returned
-        { (rows : B → List Cells) (p : Shape) (size : ℕ) (start : State) (acts : List Act)
+    ensures returned { (rows : B → List Cells) (p : Shape) (size : ℕ) (start : State)
+        (acts : List Act)
         (f : Frame B) (w t : ℕ)
         → IsToldRun rows p size start acts f
         → IsToldRun rows p size start (acts ++ Returned w t ∷ []) f }
@@ -174,8 +174,8 @@ pub fn job_law()
         → e.task ≢ t → TaskIs p size start acts t k
         → Leads p size start (journal_of (acts ++ Made e ∷ [])) new
         → TaskIs p size start (acts ++ Made e ∷ []) t k }
-    ensures returned
-        { (p : Shape) (size : ℕ) (start : State) (acts : List Act) (w u t : ℕ) (k : Task)
+    ensures returned { (p : Shape) (size : ℕ) (start : State) (acts : List Act) (w u t : ℕ)
+        (k : Task)
         → TaskIs p size start acts t k → TaskIs p size start (acts ++ Returned w u ∷ []) t k }
     ensures stays { (p : Shape) (size limit : ℕ) (start new : State) (before now : List Act)
         (w t : ℕ) (k : Task)

@@ -82,8 +82,8 @@ fn push_batch<S: Source>(
     ensures last { (items : List csv.Item) (text : List ℕ)
         → Taken body.now items text 0 scan.old.left lines.old
         → result ≡ Ok false → TakenAll body.now items text lines.new }
-    ensures met
-        { (items : List csv.Item) (text : List ℕ) (table : ℕ) (e : Refusal) (fault : ItemFault)
+    ensures met { (items : List csv.Item) (text : List ℕ) (table : ℕ) (e : Refusal)
+        (fault : ItemFault)
         → Taken body.now items text 0 scan.old.left lines.old
         → result ≡ Err e → fault_named table e ≡ Some fault
         → Meets body.now (items_of_file table file items) fault }
@@ -122,8 +122,8 @@ fn write_batch<S: Source, K: Sink>(
         → Writing body.now items before scan.old.left (K.told sink.old)
         → result ≡ Ok false
         → WroteAll body.now (items_of_file table file items) before (K.told sink.new) }
-    ensures met
-        { (items : List csv.Item) (before : List ℕ) (table : ℕ) (e : Refusal) (fault : ItemFault)
+    ensures met { (items : List csv.Item) (before : List ℕ) (table : ℕ) (e : Refusal)
+        (fault : ItemFault)
         → Writing body.now items before scan.old.left (K.told sink.old)
         → result ≡ Err e → fault_named table e ≡ Some fault
         → WroteBefore body.now [] (items_of_file table file items) before fault (K.told sink.new) }
@@ -167,8 +167,8 @@ pub(crate) fn write_rows<S: Source, K: Sink>(
         → scan.old.left ≡ Some items → K.told sink.old ≡ Some before
         → OnOk result
         (WroteAll body.now (items_of_file table file items) before (K.told sink.new)) }
-    ensures met
-        { (items : List csv.Item) (before : List ℕ) (table : ℕ) (e : Refusal) (fault : ItemFault)
+    ensures met { (items : List csv.Item) (before : List ℕ) (table : ℕ) (e : Refusal)
+        (fault : ItemFault)
         → scan.old.left ≡ Some items → K.told sink.old ≡ Some before
         → result ≡ Err e → fault_named table e ≡ Some fault
         → WroteBefore body.now [] (items_of_file table file items) before fault (K.told sink.new) }

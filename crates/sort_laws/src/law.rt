@@ -62,12 +62,12 @@ pub fn sort_law()
         → sort_rows keys (xs ++ more) ≡ sort_rows keys (ys ++ more) }
     ensures part { (keys : List Key) (xs since : List Cells)
         → sort_rows keys (xs ++ sort_rows keys since) ≡ sort_rows keys (xs ++ since) }
-    ensures front
-        { (keys : List Key) (runs : List (List Cells)) (i : ℕ) (row : Cells) (rest : List Cells)
+    ensures front { (keys : List Key) (runs : List (List Cells)) (i : ℕ) (row : Cells)
+        (rest : List Cells)
         → AreSorted keys runs → IsLeastFront keys runs i row rest
         → sort_rows keys (concat runs) ≡ row ∷ sort_rows keys (concat (slice_set runs i rest)) }
-    ensures left
-        { (keys : List Key) (runs : List (List Cells)) (i : ℕ) (row : Cells) (rest : List Cells)
+    ensures left { (keys : List Key) (runs : List (List Cells)) (i : ℕ) (row : Cells)
+        (rest : List Cells)
         → AreSorted keys runs → run runs i ≡ row ∷ rest → AreSorted keys (slice_set runs i rest) }
     ensures over { (runs : List (List Cells)) → ((j : ℕ) → run runs j ≡ []) → concat runs ≡ [] }
     ensures merged { (keys : List Key) (runs : List (List Cells))
@@ -105,8 +105,8 @@ pub fn merge_law()
     ensures items { (keys : List Key) (n : ℕ) (inputs : ℕ → List Item)
         → ((i : ℕ) → i < n → IsSortedBy (item_before keys) (inputs i))
         → merge_items keys n inputs ≡ sort_items keys (together n inputs) }
-    ensures goes_on
-        { (before : Item → Item → Bool) (n : ℕ) (inputs more : ℕ → List Item) (over over2 : ℕ
+    ensures goes_on { (before : Item → Item → Bool) (n : ℕ) (inputs more : ℕ
+        → List Item) (over over2 : ℕ
         → Bool)
         → GoesOn over more over2
         → merge before n (grown inputs more) over2
@@ -174,8 +174,8 @@ pub fn answer_law()
         → Alike out (body tables q.body) → IsSorted (row_cmp q.order) (rows out)
         → faults (first_of q.offset q.limit out) ≡ []
         → Allowed q tables (drop q.offset (rows (first_of q.offset q.limit out))) }
-    ensures limit
-        { (order : List Key) (skip : ℕ) (fetch : Option ℕ) (t : Told) (out items : List Item)
+    ensures limit { (order : List Key) (skip : ℕ) (fetch : Option ℕ) (t : Told)
+        (out items : List Item)
         → Reads (t.taken 0) (t.ended 0) out → (limit_op skip fetch).is_complete t ≡ true
         → Alike out items → IsSorted (row_cmp order) (rows out)
         → Allows order skip fetch items (rows ((limit_op skip fetch).items t)) }
@@ -203,16 +203,16 @@ pub fn answer_law()
 /// A sort at the root gives what its input gave, sorted (`sort`); and where that is allowed, it is
 /// so too, if it stands in the query's order (`above`).
 pub fn root_law()
-    ensures limit
-        { (order : List Key) (skip : ℕ) (fetch : Option ℕ) (size : ℕ) (past : Past (List Cells))
+    ensures limit { (order : List Key) (skip : ℕ) (fetch : Option ℕ) (size : ℕ)
+        (past : Past (List Cells))
         (full : ℕ → ℕ → List Item) (t : Told) (d : Desk) (inputs : ℕ → Tree) (items : List Item)
         → IsLinked size past (Over (limit_op skip fetch) t d inputs) → IsWhole size full (inputs 0)
         → poll size (Over (limit_op skip fetch) t d inputs) ≡ Ends
         → Alike (whole full (inputs 0)) items
         → IsSorted (row_cmp order) (rows (whole full (inputs 0)))
         → Allows order skip fetch items d.gave }
-    ensures all
-        { (order : List Key) (size : ℕ) (full : ℕ → ℕ → List Item) (root : Tree) (items : List Item)
+    ensures all { (order : List Key) (size : ℕ) (full : ℕ → ℕ → List Item) (root : Tree)
+        (items : List Item)
         → IsWhole size full root → poll size root ≡ Ends
         → Alike (whole full root) items → IsSorted (row_cmp order) (rows (whole full root))
         → Allows order 0 None items (gave_of root) }

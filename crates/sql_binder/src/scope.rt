@@ -72,8 +72,8 @@ impl<'a> Model for Scope<'a> {
 
     ghost view = { λ s. record { columns = s.columns.now; over = s.groups } };
 
-    ghost invariant =
-        { λ s. IfSome s.groups (λ g. s.firsts.items ≡ firsts_from s.columns.now 0 g.keys) };
+    ghost invariant = { λ s. IfSome s.groups
+        (λ g. s.firsts.items ≡ firsts_from s.columns.now 0 g.keys) };
 }
 
 impl<'a> Scope<'a> {

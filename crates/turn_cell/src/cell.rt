@@ -166,8 +166,8 @@ impl<T: Kept> TurnCell<T> {
         requires ticket { HasTicket ticket seat.old }
         ensures same { (seat.new.number ≡ seat.old.number)
             × (seat.new.place.table_id ≡ seat.old.place.table_id) }
-        ensures turn
-            { IfOk result (λ value. HasTurn seat.new × (opening_of seat.new ≡ opening_of seat.old)
+        ensures turn { IfOk result (λ value. HasTurn seat.new
+            × (opening_of seat.new ≡ opening_of seat.old)
             × (seen_of seat.new ≡ T.acts value) × (opening_of seat.old ≡ Some (T.opened value))
             × Follows (number_of seat.old) (seen_of seat.old) (T.acts value)) }
         ensures not { IfErr result (λ _. seat.new.place.me ≡ seat.old.place.me) }
@@ -259,8 +259,8 @@ impl<T: Kept> TurnCell<T> {
         ensures journal { All (λ s. JournalFollows (number_of s) (journal_of (seen_of s))
             (journal_of (T.acts result)))
             seats.items }
-        ensures loans
-            { All (λ s. loan_of (number_of s) (T.acts result) ≡ loan_of (number_of s) (seen_of s))
+        ensures loans { All (λ s. loan_of (number_of s) (T.acts result)
+            ≡ loan_of (number_of s) (seen_of s))
             seats.items }
         ensures others { (n : ℕ) → seats_of self ≤ n → acts_by n (T.acts result) ≡ [] }
     {

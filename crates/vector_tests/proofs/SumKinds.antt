@@ -17,7 +17,6 @@ fits_level : (e : Expr) (z : Expr-F Expr) → roll-Expr z ≡ e → constants_fi
 unfolding constants_fit
 fits_level e z r = ap constants_fit (sym r) ∙ fold-roll-Expr Bool node_fits z
 
-
 column-fits : (k : ℕ) → constants_fit (Column k) ≡ true
 column-fits k = fits_level (Column k) (Expr-F.Column k) (rolls-Column k)
 

@@ -182,8 +182,8 @@ impl Work for Jobs {
     ghost stays_fit = { λ job worker o before now fits sound follows.
         loan_follows worker before now follows ∙ fits };
 
-    ghost advances =
-        { λ before after worker o acts fits moves. (fits ∙ ap Some (sym moves), tt, moves) };
+    ghost advances = { λ before after worker o acts fits moves.
+        (fits ∙ ap Some (sym moves), tt, moves) };
 }
 
 // Jobs that meet nobody. Each round of a job pauses so many times.
