@@ -15,7 +15,7 @@ use Rattle.logical_plan.specs.declared.query.Query.{Query}
 use Rattle.logical_plan.specs.Items.{rows, concat}
 use Rattle.logical_plan.specs.Groups.{aggregated}
 use Rattle.logical_plan.specs.Body as body
-use Rattle.logical_plan.specs.Body.{Tables, Part, whole, key_kinds}
+use Rattle.logical_plan.specs.Body.{Tables, Part, meant_part, key_kinds}
 use Rattle.physical_plan.specs.declared.plan.Plan.{Plan}
 use Rattle.physical_plan.specs.declared.plan.Plan.TheVariants as plan
 use Rattle.physical_plan.specs.declared.plan.Plan.TheVariants.{rolls-Scan, rolls-Filter, rolls-Project, rolls-PartialGroup, rolls-FinalGroup, rolls-HashJoin, rolls-Sort, rolls-UnionAll, rolls-Limit}
@@ -103,16 +103,16 @@ module _ (phases : Phases) (laws : LawsOfParts phases) (tables : Tables) (files 
     pub width : b.width ≡ length w.kinds
 
   abbrev Body : Logical → Type 0
-  Body q = has_distincts tables q ≡ true → MeansPart (built_of files n q) (whole tables q)
+  Body q = has_distincts tables q ≡ true → MeansPart (built_of files n q) (meant_part tables q)
 
   abbrev Bodied : Type 0
   Bodied = (q : Logical) × Body q
 
   part_level : (z : Logical-F Logical)
       → (distinct_node tables (map-Logical Logical (Logical × Bool) (λ q. (q, has_distincts tables q)) z) ≡ true
-      → MeansPart (node files n (map-Logical Logical Built (built_of files n) z)) (body.node tables (map-Logical Logical Part (whole tables) z)))
+      → MeansPart (node files n (map-Logical Logical Built (built_of files n) z)) (body.node tables (map-Logical Logical Part (meant_part tables) z)))
       → Body (roll-Logical z)
-  unfolding has_distincts built_of whole
+  unfolding has_distincts built_of meant_part
   part_level z h =
       let a = para-roll-Logical Bool (distinct_node tables) z in
       let b = fold-roll-Logical Built (node files n) z in
@@ -135,19 +135,19 @@ module _ (phases : Phases) (laws : LawsOfParts phases) (tables : Tables) (files 
   tests qs = map (λ (q : Logical). (q, has_distincts tables q)) qs
 
   kinds_of_first : (qs : List Bodied) → all_true (map (λ (q : Logical × Bool). q.1) (tests (bodies qs))) ≡ true
-      → first_kinds (map (meaning_of tables) (map (λ (b : Built). b.plan) (map (built_of files n) (bodies qs)))) ≡ body.first_kinds (map (whole tables) (bodies qs))
+      → first_kinds (map (meaning_of tables) (map (λ (b : Built). b.plan) (map (built_of files n) (bodies qs)))) ≡ body.first_kinds (map (meant_part tables) (bodies qs))
   kinds_of_first [] e = refl
   kinds_of_first (q ∷ qs) e = (let b = both_true (has_distincts tables q.0) (all_true (map (λ (q : Logical × Bool). q.1) (tests (bodies qs)))) e in ap (λ (m : Meaning). m.kinds) (q.1 b.0).meaning)
 
   items_of_all : (qs : List Bodied) → all_true (map (λ (q : Logical × Bool). q.1) (tests (bodies qs))) ≡ true
-      → concat (map (λ (m : Meaning). m.items) (map (meaning_of tables) (map (λ (b : Built). b.plan) (map (built_of files n) (bodies qs))))) ≡ concat (map (λ (p : Part). p.items) (map (whole tables) (bodies qs)))
+      → concat (map (λ (m : Meaning). m.items) (map (meaning_of tables) (map (λ (b : Built). b.plan) (map (built_of files n) (bodies qs))))) ≡ concat (map (λ (p : Part). p.items) (map (meant_part tables) (bodies qs)))
   items_of_all [] e = refl
   items_of_all (q ∷ qs) e =
       let b = both_true (has_distincts tables q.0) (all_true (map (λ (q : Logical × Bool). q.1) (tests (bodies qs)))) e in
       ap (λ (m : Meaning). m.items ++ concat (map (λ (m : Meaning). m.items) (map (meaning_of tables) (map (λ (b : Built). b.plan) (map (built_of files n) (bodies qs)))))) (q.1 b.0).meaning
-      ∙ ap (λ xs. (whole tables q.0).items ++ xs) (items_of_all qs b.1)
+      ∙ ap (λ xs. (meant_part tables q.0).items ++ xs) (items_of_all qs b.1)
 
-  first_wide : (qs : List Bodied) → all_true (map (λ (q : Logical × Bool). q.1) (tests (bodies qs))) ≡ true → first_width (map (built_of files n) (bodies qs)) ≡ length (body.first_kinds (map (whole tables) (bodies qs)))
+  first_wide : (qs : List Bodied) → all_true (map (λ (q : Logical × Bool). q.1) (tests (bodies qs))) ≡ true → first_width (map (built_of files n) (bodies qs)) ≡ length (body.first_kinds (map (meant_part tables) (bodies qs)))
   first_wide [] e = refl
   first_wide (q ∷ qs) e = (let b = both_true (has_distincts tables q.0) (all_true (map (λ (q : Logical × Bool). q.1) (tests (bodies qs)))) e in (q.1 b.0).width)
 
@@ -162,7 +162,7 @@ module _ (phases : Phases) (laws : LawsOfParts phases) (tables : Tables) (files 
   }))
   part_step (Logical-F.Project x items) = part_level (Logical-F.Project x.0 items) (λ e. (let h = x.1 e in let b = built_of files n x.0 in record {
     meaning = rolled (plan.Project b.plan items) (Plan-F.Project b.plan items) (rolls-Project b.plan items) ∙ ap (λ m. meant_node tables (Plan-F.Project m items)) h.meaning;
-    width = sym (map_long (λ e. body.kind_or_text (kind_of (whole tables x.0).kinds e)) items);
+    width = sym (map_long (λ e. body.kind_or_text (kind_of (meant_part tables x.0).kinds e)) items);
   }))
   part_step (Logical-F.Join kind x y keys rest) = part_level (Logical-F.Join kind x.0 y.0 keys rest) (λ e. (
       let t = both_true (has_distincts tables x.0) (has_distincts tables y.0) e in
@@ -173,17 +173,17 @@ module _ (phases : Phases) (laws : LawsOfParts phases) (tables : Tables) (files 
       record {
         meaning = rolled (plan.HashJoin kind b.plan c.plan keys rest) (Plan-F.HashJoin kind b.plan c.plan keys rest) (rolls-HashJoin kind b.plan c.plan keys rest)
             ∙ ap (λ m. meant_node tables (Plan-F.HashJoin kind m (meaning_of tables c.plan) keys rest)) h.meaning
-            ∙ ap (λ m. meant_node tables (Plan-F.HashJoin kind (meaning (whole tables x.0).kinds (whole tables x.0).items) m keys rest)) i.meaning;
-        width = (let a = length-append (whole tables x.0).kinds (whole tables y.0).kinds in let u = h.width in let v = i.width in omega arith);
+            ∙ ap (λ m. meant_node tables (Plan-F.HashJoin kind (meaning (meant_part tables x.0).kinds (meant_part tables x.0).items) m keys rest)) i.meaning;
+        width = (let a = length-append (meant_part tables x.0).kinds (meant_part tables y.0).kinds in let u = h.width in let v = i.width in omega arith);
       }))
-  part_step (Logical-F.Aggregate x keys calls) = part_level (Logical-F.Aggregate x.0 keys calls) (λ e. (let h = x.1 e in let b = built_of files n x.0 in let w = whole tables x.0 in record {
+  part_step (Logical-F.Aggregate x keys calls) = part_level (Logical-F.Aggregate x.0 keys calls) (λ e. (let h = x.1 e in let b = built_of files n x.0 in let w = meant_part tables x.0 in record {
     meaning = grouped b keys calls w h;
     width = (let a = length-append (key_kinds w.kinds keys) (body.call_kinds w.kinds calls) in
         let c = map_long (λ (k : ℕ). body.kind_or_text (slice_get w.kinds k)) keys in
         let d = map_long (λ c. body.kind_or_text (call_kind c w.kinds)) calls in omega arith);
   }))
   part_step (Logical-F.Distinct x) = part_level (Logical-F.Distinct x.0) (λ e. (
-      let w = whole tables x.0 in
+      let w = meant_part tables x.0 in
       let t = both_true (has_distincts tables x.0) (nat_lt 0 (length w.kinds) && all_are w.kinds (rows w.items)) e in
       let u = both_true (nat_lt 0 (length w.kinds)) (all_are w.kinds (rows w.items)) t.1 in
       let h = x.1 t.0 in
@@ -198,14 +198,14 @@ module _ (phases : Phases) (laws : LawsOfParts phases) (tables : Tables) (files 
   part_step (Logical-F.UnionAll xs) = part_level (Logical-F.UnionAll (bodies xs)) (λ e. (let bs = map (λ (b : Built). b.plan) (map (built_of files n) (bodies xs)) in record {
     meaning = rolled (plan.UnionAll bs) (Plan-F.UnionAll bs) (rolls-UnionAll bs)
         ∙ ap (λ ks. meaning ks (concat (map (λ (m : Meaning). m.items) (map (meaning_of tables) bs)))) (kinds_of_first xs e)
-        ∙ ap (λ is. meaning (body.first_kinds (map (whole tables) (bodies xs))) is) (items_of_all xs e);
+        ∙ ap (λ is. meaning (body.first_kinds (map (meant_part tables) (bodies xs))) is) (items_of_all xs e);
     width = first_wide xs e;
   }))
 
-  pub body_parts : (q : Logical) → has_distincts tables q ≡ true → MeansPart (built_of files n q) (whole tables q)
+  pub body_parts : (q : Logical) → has_distincts tables q ≡ true → MeansPart (built_of files n q) (meant_part tables q)
   body_parts q e = ind-Logical Body (λ x y is. subst (λ z. Body (roll-Logical z)) is (part_step y)) q e
 
-  pub body_means : (q : Logical) → has_distincts tables q ≡ true → meaning_of tables (body_plan files n q) ≡ meaning (whole tables q).kinds (whole tables q).items
+  pub body_means : (q : Logical) → has_distincts tables q ≡ true → meaning_of tables (body_plan files n q) ≡ meaning (meant_part tables q).kinds (meant_part tables q).items
   body_means q e = (body_parts q e).meaning
 
   sorted_means : (keys : List SortKey) (p : Plan) → meaning_of tables (sorted_by keys p) ≡ meaning_of tables p
@@ -220,7 +220,7 @@ module _ (phases : Phases) (laws : LawsOfParts phases) (tables : Tables) (files 
       by false = refl
 
   -- a finished plan of a query means its body
-  pub query_means : (q : Query) (p : Plan) → has_distincts tables q.body ≡ true → erased p ≡ erased (build q files n) → meaning_of tables p ≡ meaning (whole tables q.body).kinds (whole tables q.body).items
+  pub query_means : (q : Query) (p : Plan) → has_distincts tables q.body ≡ true → erased p ≡ erased (build q files n) → meaning_of tables p ≡ meaning (meant_part tables q.body).kinds (meant_part tables q.body).items
   query_means q p e t =
       sym (erased_means tables p) ∙ ap (meaning_of tables) t ∙ erased_means tables (build q files n)
       ∙ limited_means q.offset q.limit (sorted_by q.order (body_plan files n q.body)) ∙ sorted_means q.order (body_plan files n q.body) ∙ body_means q.body e

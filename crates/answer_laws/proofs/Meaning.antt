@@ -27,7 +27,7 @@ use Rattle.content_laws.specs.Bags.{SameBag, sum_below, together, Alike}
 use Rattle.content_laws.proofs.Bags.{sums_front}
 use Rattle.tree_laws.specs.Trees.{in_files}
 use Rattle.plan_tasks.specs.Trees.{Doing, dealt_files}
-use Rattle.answer_laws.specs.Gives.{Answers, AllAnswer, AllJoin}
+use Rattle.answer_laws.specs.Gives.{Yields, AllYield, AllJoin}
 use Rattle.answer_laws.specs.Kept.{AllHold, IsKept}
 use Rattle.answer_laws.specs.Meant.{Grouping, Meaning, answered, meant_node, meaning_of, grouping, Phases, TellsBy, Tells, files_of, is_whole, all_told, same_numbers, same_call, same_calls, finishes, told_node, is_told}
 use Rattle.phase_laws.specs.Phases.{AreApart}
@@ -111,7 +111,7 @@ module _ (f : Doing) (tables : Tables) (spread : Plan-F Plan → Bool) (phases :
       dealt (f.items table) source files partitions (above_zero partitions b.0) w
       ∙ ap (λ xs. sum_by w (concat xs)) (files_read table files (equal_is files (length (files_of tables table)) b.1))))
 
-  filters : (q : Plan) (test : Expr) (xs ys : List (List Item)) → Means q xs → AllAnswer (f.operator (Plan-F.Filter q test) 1) xs ys → Means (roll-Plan (Plan-F.Filter q test)) ys
+  filters : (q : Plan) (test : Expr) (xs ys : List (List Item)) → Means q xs → AllYield (f.operator (Plan-F.Filter q test) 1) xs ys → Means (roll-Plan (Plan-F.Filter q test)) ys
   filters q test xs ys h a = level (Plan-F.Filter q test) ys (λ e w blind. (
       let b = both_true (is_told tables spread q) (is_whole (meaning_of tables q)) e in
       let m = meaning_of tables q in
@@ -121,7 +121,7 @@ module _ (f : Doing) (tables : Tables) (spread : Plan-F Plan → Bool) (phases :
       ∙ t v (λ g k. ap (λ (n : ℕ). 0 + n) (blind g k))
       ∙ sym (flat_weighs w (filtered test) m.items)))
 
-  projects : (q : Plan) (items : List Expr) (xs ys : List (List Item)) → Means q xs → AllAnswer (f.operator (Plan-F.Project q items) 1) xs ys → Means (roll-Plan (Plan-F.Project q items)) ys
+  projects : (q : Plan) (items : List Expr) (xs ys : List (List Item)) → Means q xs → AllYield (f.operator (Plan-F.Project q items) 1) xs ys → Means (roll-Plan (Plan-F.Project q items)) ys
   projects q items xs ys h a = level (Plan-F.Project q items) ys (λ e w blind. (
       let b = both_true (is_told tables spread q) (is_whole (meaning_of tables q)) e in
       let m = meaning_of tables q in
@@ -132,7 +132,7 @@ module _ (f : Doing) (tables : Tables) (spread : Plan-F Plan → Bool) (phases :
       ∙ sym (map_weighs w (projected items) m.items)))
 
   -- the segments of all partitions
-  pub segmented : (q : Plan) (keys : List ℕ) (calls : List AggCall) → IsInput tables spread q → (xs ys : List (List Item)) → AllAnswer (f.operator (Plan-F.PartialGroup q keys calls) 1) xs ys
+  pub segmented : (q : Plan) (keys : List ℕ) (calls : List AggCall) → IsInput tables spread q → (xs ys : List (List Item)) → AllYield (f.operator (Plan-F.PartialGroup q keys calls) 1) xs ys
       → (segments : List (List Item)) × (concat segments ≡ concat xs) × SameBag (concat ys) (flat_map (phases.first (grouping keys calls (meaning_of tables q))) segments)
   segmented q keys calls i [] [] h = ([], refl, λ w. refl)
   segmented q keys calls i [] (y ∷ ys) h = absurd h
@@ -152,7 +152,7 @@ module _ (f : Doing) (tables : Tables) (spread : Plan-F Plan → Bool) (phases :
             omega arith),
       )
 
-  partials : (q : Plan) (keys : List ℕ) (calls : List AggCall) (xs ys : List (List Item)) → Means q xs → AllAnswer (f.operator (Plan-F.PartialGroup q keys calls) 1) xs ys → Means (roll-Plan (Plan-F.PartialGroup q keys calls)) ys
+  partials : (q : Plan) (keys : List ℕ) (calls : List AggCall) (xs ys : List (List Item)) → Means q xs → AllYield (f.operator (Plan-F.PartialGroup q keys calls) 1) xs ys → Means (roll-Plan (Plan-F.PartialGroup q keys calls)) ys
   partials q keys calls xs ys h a = level (Plan-F.PartialGroup q keys calls) ys (λ e. (
       let b = both_true (is_told tables spread q) (is_whole (meaning_of tables q)) e in
       let m = meaning_of tables q in
@@ -160,7 +160,7 @@ module _ (f : Doing) (tables : Tables) (spread : Plan-F Plan → Bool) (phases :
       let s = segmented q keys calls (record { told = b.0; items = b.1 }) xs ys a in
       (s.0, λ w blind. ap (sum_by w) s.1 ∙ t w blind, s.2)))
 
-  sorts : (q : Plan) (keys : List SortKey) (xs ys : List (List Item)) → Means q xs → AllAnswer (f.operator (Plan-F.Sort q keys) 1) xs ys → Means (roll-Plan (Plan-F.Sort q keys)) ys
+  sorts : (q : Plan) (keys : List SortKey) (xs ys : List (List Item)) → Means q xs → AllYield (f.operator (Plan-F.Sort q keys) 1) xs ys → Means (roll-Plan (Plan-F.Sort q keys)) ys
   sorts q keys xs ys h a = level (Plan-F.Sort q keys) ys (λ e. (
       let m = meaning_of tables q in
       tells_bag phases m.groups m.items xs ys (λ w. weighed w w (f.operator (Plan-F.Sort q keys) 1) (λ c t ins s r. answering.sort q keys c t ins s r w) xs ys a) (h e)))
@@ -168,7 +168,7 @@ module _ (f : Doing) (tables : Tables) (spread : Plan-F Plan → Bool) (phases :
   single : (y : List Item) (xs : List (List Item)) → SameBag y (concat xs) → SameBag (concat (y ∷ [])) (concat xs)
   single y xs h = subst (λ zs. SameBag zs (concat xs)) (sym (append-nil y)) h
 
-  merges : (q : Plan) (keys : List SortKey) (xs : List (List Item)) (y : List Item) → Means q xs → Answers (f.operator (Plan-F.Merge q keys) (length xs)) xs y → Means (roll-Plan (Plan-F.Merge q keys)) (y ∷ [])
+  merges : (q : Plan) (keys : List SortKey) (xs : List (List Item)) (y : List Item) → Means q xs → Yields (f.operator (Plan-F.Merge q keys) (length xs)) xs y → Means (roll-Plan (Plan-F.Merge q keys)) (y ∷ [])
   merges q keys xs y h a = level (Plan-F.Merge q keys) (y ∷ []) (λ e. (
       let m = meaning_of tables q in
       let b : SameBag y (concat xs) = (λ w. ap (sum_by w) a.gives ∙ answering.merge q keys (length xs) a.consumer a.told a.taken a.split a.reads w ∙ together_all xs a.taken a.are w) in
@@ -202,10 +202,10 @@ module _ (f : Doing) (tables : Tables) (spread : Plan-F Plan → Bool) (phases :
   -- ------------------------------------------------------------ groups
 
   pub seconds : (q : Plan) (keys : List ℕ) (calls : List AggCall) (g : Grouping) → (meaning_of tables q).groups ≡ Some g → keys ≡ numbers (length g.columns) → calls ≡ g.calls
-      → (w : Item → ℕ) (xs ys : List (List Item)) → AllAnswer (f.operator (Plan-F.FinalGroup q keys calls) 1) xs ys → sum_by w (concat ys) ≡ sum_by w (together (length xs) (λ i. phases.second g (part xs i)))
+      → (w : Item → ℕ) (xs ys : List (List Item)) → AllYield (f.operator (Plan-F.FinalGroup q keys calls) 1) xs ys → sum_by w (concat ys) ≡ sum_by w (together (length xs) (λ i. phases.second g (part xs i)))
   seconds q keys calls g e k c w xs ys a = by xs ys a ∙ sym (together_concat w xs (phases.second g))
     where
-      by : (xs ys : List (List Item)) → AllAnswer (f.operator (Plan-F.FinalGroup q keys calls) 1) xs ys → sum_by w (concat ys) ≡ sum_by w (concat (map (phases.second g) xs))
+      by : (xs ys : List (List Item)) → AllYield (f.operator (Plan-F.FinalGroup q keys calls) 1) xs ys → sum_by w (concat ys) ≡ sum_by w (concat (map (phases.second g) xs))
       by [] [] h = refl
       by [] (y ∷ ys) h = absurd h
       by (x ∷ xs) [] h = absurd h
@@ -217,7 +217,7 @@ module _ (f : Doing) (tables : Tables) (spread : Plan-F Plan → Bool) (phases :
           let r = by xs ys h.1 in
           omega arith
 
-  finals : (q : Plan) (keys : List ℕ) (calls : List AggCall) (xs ys : List (List Item)) → Holds q xs → AllAnswer (f.operator (Plan-F.FinalGroup q keys calls) 1) xs ys → Means (roll-Plan (Plan-F.FinalGroup q keys calls)) ys
+  finals : (q : Plan) (keys : List ℕ) (calls : List AggCall) (xs ys : List (List Item)) → Holds q xs → AllYield (f.operator (Plan-F.FinalGroup q keys calls) 1) xs ys → Means (roll-Plan (Plan-F.FinalGroup q keys calls)) ys
   finals q keys calls xs ys h a = level (Plan-F.FinalGroup q keys calls) ys (λ e. (
       let m = meaning_of tables q in
       let t = finishes m.groups keys calls (rows m.items) in

@@ -5,13 +5,13 @@ use Rattle.logical_plan.specs.Items.{Item}
 use Rattle.tree_laws.specs.Operators.{Op}
 use Rattle.tree_laws.specs.Trees.{File, Tree, Nothing, form, in_files}
 use Rattle.plan_tasks.specs.Trees.{Seed, node, inlet, leaf, scanning, passing, holding, pairing, paired, merged}
-use Rattle.answer_laws.specs.Gives.{channels, Gives, AllGive, Answers, AllAnswer, AllJoin}
+use Rattle.answer_laws.specs.Gives.{channels, Gives, AllGive, Yields, AllYield, AllJoin}
 
 module _ (full : ℕ → ℕ → List Item) where
   -- ------------------------------------------------------------ one operator
 
   pub over_one : (op : ℕ → Op) (c : ℕ) (t : Tree) (y : List Item) → Gives full (form (node (op c) (t ∷ []))) y
-      → (x : List Item) × Gives full (form t) x × Answers op (x ∷ []) y
+      → (x : List Item) × Gives full (form t) x × Yields op (x ∷ []) y
   over_one op c t y h = (h.1 0, h.4 0, record { consumer = c; told = h.0; taken = h.1; are = are; split = h.2; reads = h.3; gives = h.5 })
     where
       are : (i : ℕ) → h.1 i ≡ get_or (h.1 0 ∷ []) i []
@@ -19,7 +19,7 @@ module _ (full : ℕ → ℕ → List Item) where
       are (suc i) = h.4 (suc i)
 
   pub over_two : (op : ℕ → Op) (c : ℕ) (t u : Tree) (z : List Item) → Gives full (form (node (op c) (t ∷ u ∷ []))) z
-      → (x : List Item) × (y : List Item) × Gives full (form t) x × Gives full (form u) y × Answers op (x ∷ y ∷ []) z
+      → (x : List Item) × (y : List Item) × Gives full (form t) x × Gives full (form u) y × Yields op (x ∷ y ∷ []) z
   over_two op c t u z h = (h.1 0, h.1 1, h.4 0, h.4 1, record { consumer = c; told = h.0; taken = h.1; are = are; split = h.2; reads = h.3; gives = h.5 })
     where
       are : (i : ℕ) → h.1 i ≡ get_or (h.1 0 ∷ h.1 1 ∷ []) i []
@@ -28,7 +28,7 @@ module _ (full : ℕ → ℕ → List Item) where
       are (suc (suc i)) = h.4 (suc (suc i))
 
   pub passed : (op : ℕ → Op) (ss : List Seed) (ys : List (List Item)) → AllGive full (map (passing op) ss) ys
-      → (xs : List (List Item)) × AllGive full ss xs × AllAnswer op xs ys
+      → (xs : List (List Item)) × AllGive full ss xs × AllYield op xs ys
   passed op [] [] h = ([], tt, tt)
   passed op [] (y ∷ ys) h = absurd h
   passed op (s ∷ ss) [] h = absurd h
@@ -38,7 +38,7 @@ module _ (full : ℕ → ℕ → List Item) where
       (a.0 ∷ r.0, ((h.0.0, a.1), r.1), (a.2, r.2))
 
   pub held : (b : Bool) (op : ℕ → Op) (ss : List Seed) (ys : List (List Item)) → AllGive full (map (holding b op) ss) ys
-      → (xs : List (List Item)) × AllGive full ss xs × AllAnswer op xs ys
+      → (xs : List (List Item)) × AllGive full ss xs × AllYield op xs ys
   held b op [] [] h = ([], tt, tt)
   held b op [] (y ∷ ys) h = absurd h
   held b op (s ∷ ss) [] h = absurd h
@@ -57,7 +57,7 @@ module _ (full : ℕ → ℕ → List Item) where
   right_alone op (r ∷ rs) (z ∷ zs) h =
       let a = over_two op h.0.0 Nothing (r.tree (h.0.0 + 1 + 0)) z h.0.1 in
       let m = right_alone op rs zs h.1 in
-      (a.1 ∷ m.0, ((h.0.0 + 1 + 0, a.3), m.1), (subst (λ (x : List Item). Answers op (x ∷ a.1 ∷ []) z) a.2 a.4, m.2))
+      (a.1 ∷ m.0, ((h.0.0 + 1 + 0, a.3), m.1), (subst (λ (x : List Item). Yields op (x ∷ a.1 ∷ []) z) a.2 a.4, m.2))
 
   left_alone : (op : ℕ → Op) (ls : List Seed) (zs : List (List Item)) → AllGive full (paired op ls []) zs
       → (xs : List (List Item)) × AllGive full ls xs × AllJoin op xs [] zs
@@ -67,7 +67,7 @@ module _ (full : ℕ → ℕ → List Item) where
   left_alone op (l ∷ ls) (z ∷ zs) h =
       let a = over_two op h.0.0 (l.tree (h.0.0 + 1)) Nothing z h.0.1 in
       let m = left_alone op ls zs h.1 in
-      (a.0 ∷ m.0, ((h.0.0 + 1, a.2), m.1), (subst (λ (y : List Item). Answers op (a.0 ∷ y ∷ []) z) a.3 a.4, m.2))
+      (a.0 ∷ m.0, ((h.0.0 + 1, a.2), m.1), (subst (λ (y : List Item). Yields op (a.0 ∷ y ∷ []) z) a.3 a.4, m.2))
 
   pub joined : (op : ℕ → Op) (ls rs : List Seed) (zs : List (List Item)) → AllGive full (paired op ls rs) zs
       → (xs : List (List Item)) × (ys : List (List Item)) × AllGive full ls xs × AllGive full rs ys × AllJoin op xs ys zs
@@ -105,7 +105,7 @@ module _ (full : ℕ → ℕ → List Item) where
   inlets_at k ins (c ∷ cs) h (suc i) = inlets_at k (λ j. ins (suc j)) cs (λ j. h (suc j)) i
 
   pub merges : (op : ℕ → ℕ → Op) (k n : ℕ) (ys : List (List Item)) → AllGive full (merged op k n ∷ []) ys
-      → (y : List Item) × (ys ≡ y ∷ []) × Answers (op n) (channels full k n) y
+      → (y : List Item) × (ys ≡ y ∷ []) × Yields (op n) (channels full k n) y
   merges op k n [] h = absurd h
   merges op k n (y ∷ []) h =
       let g = h.0.1 in

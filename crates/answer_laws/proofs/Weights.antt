@@ -10,7 +10,7 @@ use Rattle.content_laws.specs.Bags.{SameBag, sum_below, together, Alike}
 use Rattle.content_laws.proofs.Bags.{sums_same, sums_add, sums_zero, sums_at, sums_front}
 use Rattle.tree_laws.specs.Trees.{in_files}
 use Rattle.plan_tasks.specs.Trees.{dealt_files}
-use Rattle.answer_laws.specs.Gives.{AllAnswer}
+use Rattle.answer_laws.specs.Gives.{AllYield}
 
 pub same_alike : (xs ys : List Item) → SameBag xs ys → Alike xs ys
 same_alike xs ys h w blind = h w
@@ -45,7 +45,7 @@ flat-append w h xs ys =
 
 -- operators that turn one weight into another do so of all partitions together
 pub weighed : (w v : Item → ℕ) (op : ℕ → Op) → ((c : ℕ) (t : Told) (ins : ℕ → List Item) → IsSplit t → ReadsAll t ins → sum_by w ((op c).whole t ins) ≡ sum_by v (ins 0))
-    → (xs ys : List (List Item)) → AllAnswer op xs ys → sum_by w (concat ys) ≡ sum_by v (concat xs)
+    → (xs ys : List (List Item)) → AllYield op xs ys → sum_by w (concat ys) ≡ sum_by v (concat xs)
 weighed w v op owes [] [] h = refl
 weighed w v op owes [] (y ∷ ys) h = absurd h
 weighed w v op owes (x ∷ xs) [] h = absurd h

@@ -6,7 +6,7 @@ use Rattle.logical_plan.specs.declared.plan.Logical.{Logical}
 use Rattle.logical_plan.specs.declared.plan.Logical.TheOpen.{Logical-F}
 use Rattle.logical_plan.specs.declared.plan.Logical.TheFolds.{para-Logical}
 use Rattle.logical_plan.specs.Items.{rows}
-use Rattle.logical_plan.specs.Body.{Tables, whole}
+use Rattle.logical_plan.specs.Body.{Tables, meant_part}
 
 abbrev pub distinct_node : Tables → Logical-F (Logical × Bool) → Bool
 distinct_node tables (Logical-F.Scan table kinds) = true
@@ -16,8 +16,8 @@ distinct_node tables (Logical-F.Join kind left right keys rest) = left.1 && righ
 distinct_node tables (Logical-F.Aggregate input keys calls) = input.1
 distinct_node tables (Logical-F.Distinct input) =
     input.1
-    && (nat_lt 0 (length (whole tables input.0).kinds)
-    && all_are (whole tables input.0).kinds (rows (whole tables input.0).items))
+    && (nat_lt 0 (length (meant_part tables input.0).kinds)
+    && all_are (meant_part tables input.0).kinds (rows (meant_part tables input.0).items))
 distinct_node tables (Logical-F.UnionAll inputs) = all_true (map (λ (q : Logical × Bool). q.1) inputs)
 
 unfoldable pub has_distincts : Tables → Logical → Bool

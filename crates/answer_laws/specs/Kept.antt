@@ -19,7 +19,7 @@ use Rattle.content_laws.specs.SenderKinds.{is_at}
 use Rattle.tree_laws.specs.Trees.{in_files}
 use Rattle.plan_tasks.specs.Trees.{Doing, dealt_files}
 use Rattle.plan_tasks.specs.Tops.{ByHash, way_to}
-use Rattle.answer_laws.specs.Gives.{Answers, AllAnswer, AllJoin}
+use Rattle.answer_laws.specs.Gives.{Yields, AllYield, AllJoin}
 
 -- something holds of each plan and the lists of its partitions
 abbrev pub AllHold : (Plan → List (List Item) → Type 0) → List Plan → List (List (List Item)) → Type 0
@@ -45,25 +45,25 @@ pub record IsKept (f : Doing) (holds : Plan → List (List Item) → Type 0) : T
       → holds (roll-Plan (Plan-F.Scan table kinds files partitions))
       (map (λ (i : ℕ). in_files (dealt_files (f.items table) source files partitions i)) (numbers partitions))
   pub filter : (q : Plan) (test : Expr) (xs ys : List (List Item)) → holds q xs
-      → AllAnswer (f.operator (Plan-F.Filter q test) 1) xs ys → holds (roll-Plan (Plan-F.Filter q test)) ys
+      → AllYield (f.operator (Plan-F.Filter q test) 1) xs ys → holds (roll-Plan (Plan-F.Filter q test)) ys
   pub project : (q : Plan) (items : List Expr) (xs ys : List (List Item)) → holds q xs
-      → AllAnswer (f.operator (Plan-F.Project q items) 1) xs ys → holds (roll-Plan (Plan-F.Project q items)) ys
+      → AllYield (f.operator (Plan-F.Project q items) 1) xs ys → holds (roll-Plan (Plan-F.Project q items)) ys
   pub partial : (q : Plan) (keys : List ℕ) (calls : List AggCall) (xs ys : List (List Item)) → holds q xs
-      → AllAnswer (f.operator (Plan-F.PartialGroup q keys calls) 1) xs ys
+      → AllYield (f.operator (Plan-F.PartialGroup q keys calls) 1) xs ys
       → holds (roll-Plan (Plan-F.PartialGroup q keys calls)) ys
   pub final : (q : Plan) (keys : List ℕ) (calls : List AggCall) (xs ys : List (List Item)) → holds q xs
-      → AllAnswer (f.operator (Plan-F.FinalGroup q keys calls) 1) xs ys
+      → AllYield (f.operator (Plan-F.FinalGroup q keys calls) 1) xs ys
       → holds (roll-Plan (Plan-F.FinalGroup q keys calls)) ys
   pub join : (kind : JoinKind) (p q : Plan) (keys : List (ℕ × ℕ)) (rest : Option Expr) (xs ys zs : List (List Item))
       → holds p xs → holds q ys
       → AllJoin (f.operator (Plan-F.HashJoin kind p q keys rest) 2) xs ys zs
       → holds (roll-Plan (Plan-F.HashJoin kind p q keys rest)) zs
   pub sort : (q : Plan) (keys : List SortKey) (xs ys : List (List Item)) → holds q xs
-      → AllAnswer (f.operator (Plan-F.Sort q keys) 1) xs ys → holds (roll-Plan (Plan-F.Sort q keys)) ys
+      → AllYield (f.operator (Plan-F.Sort q keys) 1) xs ys → holds (roll-Plan (Plan-F.Sort q keys)) ys
   pub limit : (q : Plan) (skip : ℕ) (fetch : Option ℕ) (xs ys : List (List Item)) → holds q xs
-      → AllAnswer (f.operator (Plan-F.Limit q skip fetch) 1) xs ys → holds (roll-Plan (Plan-F.Limit q skip fetch)) ys
+      → AllYield (f.operator (Plan-F.Limit q skip fetch) 1) xs ys → holds (roll-Plan (Plan-F.Limit q skip fetch)) ys
   pub merge : (q : Plan) (keys : List SortKey) (xs : List (List Item)) (y : List Item) → holds q xs
-      → Answers (f.operator (Plan-F.Merge q keys) (length xs)) xs y → holds (roll-Plan (Plan-F.Merge q keys)) (y ∷ [])
+      → Yields (f.operator (Plan-F.Merge q keys) (length xs)) xs y → holds (roll-Plan (Plan-F.Merge q keys)) (y ∷ [])
   pub coalesce : (q : Plan) (xs : List (List Item)) (y : List Item) → holds q xs
       → SameBag y (concat xs) → KeepsOrder xs (y ∷ []) → holds (roll-Plan (Plan-F.Coalesce q)) (y ∷ [])
   pub repartition : (q : Plan) (to : Partitioning) (xs ys : List (List Item)) → holds q xs

@@ -13,7 +13,7 @@ ghost use Rattle.physical_build.specs.Build.{build};
 ghost use Rattle.history_laws.specs.Histories.{Past};
 ghost use Rattle.logical_plan.specs.declared.query.Query.{Query as AQuery};
 ghost use Rattle.logical_plan.specs.Items.{Cells, Item, of_rows, faults};
-ghost use Rattle.logical_plan.specs.Body.{Tables, whole as body_part};
+ghost use Rattle.logical_plan.specs.Body.{Tables, meant_part as body_part};
 ghost use Rattle.tree_laws.specs.Trees.{Tree, form};
 ghost use Rattle.tree_laws.specs.Linked.{whole, IsLinked, IsFlow};
 ghost use Rattle.tree_laws.specs.Runs.{State, the_task, IsReached};

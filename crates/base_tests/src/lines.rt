@@ -3,8 +3,9 @@
 ghost use Rattle.std.specs.Prelude.{◌≡◌, ◌∷◌, [], IfOk, IsUtf8};
 ghost use Rattle.dfx_value.specs.declared.kind.Kind.TheVariants as kind;
 
-use dfx_value::{Batch, Builder, Kind, Row, Text, Value};
-use result_text::{header_text, rows_text};
+use column_batch::{Batch, Builder};
+use dfx_value::{Kind, Row, Text, Value};
+use result_text::{RowLines, header_text};
 use std::alloc::Global;
 use std::test::Fail;
 
@@ -33,14 +34,20 @@ fn some_rows(alloc: Global) -> Result<Batch, Fail>
     builder.push(Row { cells })?;
     let cells = vec![in alloc; Value::Null, Value::Null]?;
     builder.push(Row { cells })?;
-    Ok(builder.finish())
+    Ok(builder.finish(alloc)?)
 }
 
 #[test]
 fn rows(rt: HostRuntime) -> Result<(), Fail> {
     let batch = some_rows(rt.alloc())?;
-    let found = rows_text(rt.alloc(), &batch, &[1, 0, 1])?;
-    let wanted = "-7,\"a \"\"b\"\"\",-7\n,,\n";
-    assert_eq!(rt; std::str::from_utf8(found.as_slice()), Ok(wanted));
+    let mut lines = RowLines::new(rt.alloc());
+    lines.push_batch(&batch)?;
+    lines.push_batch(&batch)?;
+    let cells = vec![in rt.alloc(); Value::Null, Value::Null]?;
+    lines.push_row(&Row { cells })?;
+    let wanted = "\"a \"\"b\"\"\",-7\n,\n\"a \"\"b\"\"\",-7\n,\n,\n";
+    assert_eq!(rt; std::str::from_utf8(lines.as_slice()), Ok(wanted));
+    lines.clear();
+    assert!(rt; lines.as_slice().is_empty());
     Ok(())
 }

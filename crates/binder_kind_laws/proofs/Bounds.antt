@@ -26,7 +26,7 @@ use Rattle.binder_kind_laws.proofs.Settled.{Real}
 use Rattle.binder_kind_laws.proofs.Each.{unless_so, Pairs}
 use Rattle.binder_kind_laws.proofs.Selects.{Selects}
 use Rattle.binder_kind_laws.proofs.Unions.{Selecting_, union_selects}
-use Rattle.binder_kind_laws.proofs.Spelled.{IsScript}
+use Rattle.binder_kind_laws.proofs.Spelled.{IsSpelled}
 use Rattle.binder_kind_laws.proofs.Froms.{GoodTable, selects_well}
 
 -- ---- tables
@@ -141,12 +141,12 @@ whole_tables [] (x ∷ xs) h k = absurd h
 whole_tables (t ∷ ts) [] h k = absurd h
 
 -- so the query of a script that a text spells is well-kinded over the tables that it declares
-pub declared_kinded : (script : Script) (q : Query) → IsScript script → bound script (map declared_schema script.tables) ≡ Ok q → KindedQuery (map declared_kinds script.tables) q
+pub declared_kinded : (script : Script) (q : Query) → IsSpelled script → bound script (map declared_schema script.tables) ≡ Ok q → KindedQuery (map declared_kinds script.tables) q
 declared_kinded script q s e = go (tables script.tables (map declared_schema script.tables)) refl
   where
     go : (a : Answer (List Table)) → tables script.tables (map declared_schema script.tables) ≡ a → KindedQuery (map declared_kinds script.tables) q
     go (Ok ts) t =
         let b = answered (Behind script.tables []) (tables script.tables (map declared_schema script.tables)) ts (declared_after script.tables []) t in
-        let w = whole_tables script.tables ts (subst (Pairs Declares script.tables) (sym b.1.0) b.1.1) s.1 in
-        subst (λ (kss : List (List Kind)). KindedQuery kss q) w.1 (bound_kinded script (map declared_schema script.tables) ts q t w.0 s.0 e)
+        let w = whole_tables script.tables ts (subst (Pairs Declares script.tables) (sym b.1.0) b.1.1) s.kinds in
+        subst (λ (kss : List (List Kind)). KindedQuery kss q) w.1 (bound_kinded script (map declared_schema script.tables) ts q t w.0 s.items e)
     go (Err r) t = let r = sym (ap (λ (a : Answer (List Table)). a >>= λ xs. union_of (map (select xs) script.parts) >>= query_of script) t) ∙ e in cc

@@ -33,7 +33,7 @@ use Rattle.sql_tables.specs.declared.table.Table.{Table}
 use Rattle.sql_tables.specs.Tables.{columns_under}
 use Rattle.sql_binder.specs.declared.sources.Source.{Source}
 use Rattle.sql_binder.specs.declared.selected.Selected.{Selected}
-use Rattle.sql_binder.specs.Sources.{kinds, scanned, number_from, number_of_table, names_at, kinds_at, table, derived, Reading, Joining, if_new, under_new_alias, condition, side, joined_body, joined_on, joined, all_joined, from, filtered}
+use Rattle.sql_binder.specs.Sources.{kinds, scanned, number_from, number_of_table, names_at, kinds_at, table, derived, Reading, Joining, if_new, under_new_alias, condition, side, joined_body, joined_on, joined_source, all_joined, from, filtered}
 use Rattle.sql_binder.specs.Selects.{Parts, Selecting, union_of, selected, select, reading_of, joining_of}
 use Rattle.binder_laws.proofs.Trees.{select_is, joining_is, named_is, derived_is}
 use Rattle.binder_laws.proofs.Holding.{Holds, after, unless, where_some, Every, every_append}
@@ -178,12 +178,12 @@ module _ (tables : List Table) (good : Every GoodTable tables) where
       (subst (λ (x : List Kind). kind_of x test ≡ Some kind.Bool) q t.0.kind, t.0.fits) (subst (λ (w : ℕ). reads.Reads w test) n t.1) body e)))
       (λ body b. record { body = (b.0, b.1 ∙ sym q); real = real; some = omega arith })
 
-  joined_good : (left : Source) (j : Joining) → Source_ left → JoinsWell j → Holds Source_ (joined left j)
+  joined_good : (left : Source) (j : Joining) → Source_ left → JoinsWell j → Holds Source_ (joined_source left j)
   joined_good left j h i = after Source_ Source_ (under_new_alias left.columns j.right) (λ right. joined_on j.kind left right j.on) (under_good left.columns j.right i) (λ right g. on_good j.kind left right j.on h g)
 
   all_good : (left : Source) (js : List Joining) → Source_ left → Every JoinsWell js → Holds Source_ (all_joined left js)
   all_good left [] h i = h
-  all_good left (j ∷ js) h i = after Source_ Source_ (joined left j) (λ next. all_joined next js) (joined_good left j h i.0) (λ next g. all_good next js g i.1)
+  all_good left (j ∷ js) h i = after Source_ Source_ (joined_source left j) (λ next. all_joined next js) (joined_good left j h i.0) (λ next g. all_good next js g i.1)
 
   from_good : (first : Reading) (js : List Joining) → ReadsWell first → Every JoinsWell js → Holds Source_ (from first js)
   from_good first js h i = after Source_ Source_ (under_new_alias [] first) (λ left. all_joined left js) (under_good [] first h) (λ left g. all_good left js g i)

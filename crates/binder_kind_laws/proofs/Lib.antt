@@ -16,3 +16,5 @@ pub mod Froms
 pub mod Items
 pub mod Spelled
 pub mod Bounds
+pub mod Scans
+pub mod Few

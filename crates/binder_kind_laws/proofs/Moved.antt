@@ -15,7 +15,7 @@ use Rattle.scalar_exprs.proofs.KindSteps.{kind_of-Column, kind_of-Const, kind_of
 use Rattle.kind_laws.proofs.KindedSteps.{fit-Column, fit-Not, fit-Neg, fit-IsNull, fit-Binary, fit-Case, fit-Coalesce, fit-Cast, fit-Abs, fit-Length}
 use Rattle.join_lowering.specs.Keys.{columns}
 use Rattle.join_lowering.specs.Lowering.{renumbered}
-use Rattle.join_lowering.specs.Words.{arm_columns, all_columns, renumbered_arms}
+use Rattle.join_lowering.specs.SidesUsed.{arm_columns, all_columns, renumbered_arms}
 use Rattle.join_lowering.proofs.Nodes.{columns-Column, columns-Not, columns-Neg, columns-IsNull, columns-Binary, columns-Case, columns-Coalesce, columns-Cast, columns-Abs, columns-Length, renumbered-Column, renumbered-Const, renumbered-Not, renumbered-Neg, renumbered-IsNull, renumbered-Binary, renumbered-Case, renumbered-Coalesce, renumbered-Cast, renumbered-Abs, renumbered-Length}
 use Rattle.binder_laws.proofs.Holding.{Every, every_split}
 

@@ -1,8 +1,9 @@
 -- What a text spells: each select has an item, and each column that a table declares has a kind that is one.
-use Rattle.std.specs.Prelude.{nat_le, nat_lt}
+use Rattle.std.specs.Prelude.{nat_le, nat_lt, ◌+◌, ◌≤◌}
 use Rattle.std.specs.List.{list_all}
-use Rattle.std.proofs.Common.{ℕ, zero, suc, ◌≡◌, refl, ◌∙◌, subst, cond, Bool, true, false, ◌&&◌, Option, Some, None, Ok, List, [], ◌∷◌, ◌++◌, map, length, length-append, arith}
-use Rattle.std.proofs.lemmas.Bool.{and_parts, and_from, lt-ltb, false≢true}
+use Rattle.std.proofs.Common.{ℕ, zero, suc, ◌≡◌, refl, ◌∙◌, sym, ap, subst, cond, Bool, true, false, ◌&&◌, Option, Some, None, Ok, List, [], ◌∷◌, ◌++◌, map, length, length-append, arith}
+use Rattle.std.proofs.lemmas.Bool.{and_parts, and_from, lt-ltb, le-leb, false≢true}
+use Rattle.std.proofs.lemmas.List.{length-map}
 use Rattle.dfx_value.specs.Kinds.{is_kind, are_kinds}
 use Rattle.dfx_value.specs.declared.kind.Kind.{Kind}
 use Rattle.dfx_value.specs.declared.kind.Kind.TheVariants as kind
@@ -18,12 +19,13 @@ use Rattle.sql_grammar.specs.declared.ast.TableAst.{TableAst}
 use Rattle.sql_grammar.specs.declared.ast.Script.{Script}
 use Rattle.sql_grammar.specs.Class.{Token, Tokens, among, starts}
 use Rattle.sql_grammar.specs.Grammar.{Limits, limits, beyond, one, names, simple_types, forms}
-use Rattle.sql_grammar.specs.Trees.{is_within, small, or_zero, kind_of, or_empty, alias_or, joined, select_of}
+use Rattle.sql_grammar.specs.Trees.{is_within, small, or_zero, kind_of, or_empty, alias_or, join_ast, select_of}
 use Rattle.sql_grammar.specs.Reader.{Stop, Read, done, stop, unexpected, too_deep, too_many, Reader, and_then, ◌>>=◌, pure, matching, terminal, either, maybe, turns_within, turns, over, up_to, charge, inside, ahead, at_end}
 use Rattle.sql_grammar.specs.Reading as r
 use Rattle.sql_grammar.specs.Reading.{Readers}
 use Rattle.sql_grammar.specs.Parsed.{tokens_of, read, answer, parsed}
-use Rattle.binder_kind_laws.specs.Scripts.{all_have, select_has_items, from_has_items, join_has_items, has_items, declares_kinds}
+use Rattle.binder_kind_laws.specs.Scripts.{all_have, select_has_items, from_has_items, join_has_items, has_items, declares_kinds, declared_kinds}
+use Rattle.binder_kind_laws.specs.Scans.{are_few}
 use Rattle.binder_kind_laws.proofs.Items.{named_items, derived_items, join_items, select_items, one_more}
 
 -- ---- what readers give
@@ -114,6 +116,45 @@ enclosed_gives : {A : Type 0} (P : List A → Type 0) (cs : List Class) (more : 
 enclosed_gives P cs more p first step =
     behind P (terminal (one c.Open)) _ (λ t. both P P (r.listed cs more p) _ (listed_gives P cs more p first step) (λ found i. behind P (terminal (one c.Close)) (λ close. pure found) (λ u n ts. i)))
 
+-- ---- how long lists are
+
+abbrev Long : {A : Type 0} → ℕ → List A → Type 0
+Long n xs = length xs ≤ n
+
+pair_read : {A : Type 0} (P Q : A → Type 0) (a : Read A) → IsRead P a → IsRead Q a → IsRead (λ x. P x × Q x) a
+pair_read P Q (done x n ts) h k = (h, k)
+pair_read P Q (stop s ts) h k = tt
+
+pair_gives : {A : Type 0} (P Q : A → Type 0) (f : Reader A) → Gives P f → Gives Q f → Gives (λ x. P x × Q x) f
+pair_gives P Q f h k n ts = pair_read P Q (f n ts) (h n ts) (k n ts)
+
+-- one longer than what was found
+abbrev OneMore : {A : Type 0} → List A → List A → Type 0
+OneMore found xs = length xs ≡ suc (length found)
+
+item_long : {A : Type 0} (p : Reader A) (found : List A) → Gives (OneMore found) (r.item_of p found)
+item_long p found = behind (OneMore found) p (λ next. pure (found ++ next ∷ [])) (λ x n ts. (let a = length-append found (x ∷ []) in omega arith))
+
+up_to_long : {A : Type 0} (cs : List Class) (p : List A → Reader (List A)) (full : Reader (List A)) → ((P : List A → Type 0) → Gives P full)
+    → ((s : List A) → Gives (OneMore s) (p s)) → (k : ℕ) (s : List A) → Gives (Long (length s + k)) (up_to cs p full k s)
+unfolding up_to
+up_to_long cs p full none h zero s = either_gives (Long (length s + 0)) cs full (pure s) (none (Long (length s + 0))) (λ n ts. omega arith)
+up_to_long cs p full none h (suc k) s = either_gives (Long (length s + suc k)) cs (p s >>= λ next. up_to cs p full k next) (pure s)
+    (both (OneMore s) (Long (length s + suc k)) (p s) (λ next. up_to cs p full k next) (h s)
+    (λ x i. subst (λ m. Gives (Long m) (up_to cs p full k x)) (omega arith) (up_to_long cs p full none h k x)))
+    (λ n ts. omega arith)
+
+listed_long : {A : Type 0} (cs : List Class) (more : ℕ) (p : Reader A) → Gives (Long (suc more)) (r.listed cs more p)
+listed_long cs more p = both (OneMore []) (Long (suc more)) (r.item_of p []) (λ x. r.listing cs (r.item_of p) more x) (item_long p [])
+    (λ x i. subst (λ m. Gives (Long m) (r.listing cs (r.item_of p) more x)) (let a : length x ≡ 1 = i in omega arith)
+    (up_to_long (one c.Comma) (r.behind (r.item_of p)) (r.full cs) (λ P. full_gives P cs)
+    (λ s. behind (OneMore s) (terminal (one c.Comma)) (λ comma. r.item_of p s) (λ t. item_long p s)) more x))
+
+enclosed_long : {A : Type 0} (cs : List Class) (more : ℕ) (p : Reader A) → Gives (Long (suc more)) (r.enclosed cs more p)
+enclosed_long cs more p =
+    behind (Long (suc more)) (terminal (one c.Open)) _ (λ t. both (Long (suc more)) (Long (suc more)) (r.listed cs more p) _ (listed_long cs more p)
+    (λ found i. behind (Long (suc more)) (terminal (one c.Close)) (λ close. pure found) (λ u n ts. i)))
+
 -- ---- kinds
 
 abbrev Real : Kind → Type 0
@@ -156,45 +197,62 @@ column_gives : Gives Declared r.column
 unfolding r.column
 column_gives = behind Declared (terminal names) (λ name. r.type_name >>= λ k. pure (name.text, k)) (λ name. both Real Declared r.type_name (λ k. pure (name.text, k)) type_gives (λ k h n ts. h))
 
+abbrev kinds_of_columns : List (List ℕ × Kind) → List Kind
+kinds_of_columns cs = map (λ (x : List ℕ × Kind). x.1) cs
+
 abbrev Columns : List (List ℕ × Kind) → Type 0
-Columns cs = are_kinds (map (λ (x : List ℕ × Kind). x.1) cs) ≡ true
+Columns cs = are_kinds (kinds_of_columns cs) ≡ true
 
 kinds_more : (cs : List (List ℕ × Kind)) (x : List ℕ × Kind) → Columns cs → Real x.1 → Columns (cs ++ x ∷ [])
 kinds_more [] x h i = and_from (is_kind x.1) true i refl
-kinds_more (y ∷ ys) x h i = let b = and_parts (is_kind y.1) (are_kinds (map (λ (x : List ℕ × Kind). x.1) ys)) h in and_from (is_kind y.1) _ b.0 (kinds_more ys x b.1 i)
+kinds_more (y ∷ ys) x h i = let b = and_parts (is_kind y.1) (are_kinds (kinds_of_columns ys)) h in and_from (is_kind y.1) _ b.0 (kinds_more ys x b.1 i)
 
 item_gives : (found : List (List ℕ × Kind)) → Columns found → Gives Columns (r.item_of r.column found)
 item_gives found h = both Declared Columns r.column (λ next. pure (found ++ next ∷ [])) column_gives (λ x i n ts. kinds_more found x h i)
 
-columns_give : (more : ℕ) → Gives Columns (r.columns_of more)
+-- columns with kinds, and at most one and so many more
+abbrev Listed : ℕ → List (List ℕ × Kind) → Type 0
+Listed more cs = Columns cs × Long (suc more) cs
+
+columns_give : (more : ℕ) → Gives (Listed more) (r.columns_of more)
 unfolding r.columns_of
-columns_give more = enclosed_gives Columns names more r.column (item_gives [] refl) item_gives
+columns_give more =
+    pair_gives Columns (Long (suc more)) (r.enclosed names more r.column)
+    (enclosed_gives Columns names more r.column (item_gives [] refl) item_gives) (enclosed_long names more r.column)
 
-or_none : (o : Option (List (List ℕ × Kind))) → Maybe Columns o → Columns (or_empty o)
-or_none None h = refl
-or_none (Some cs) h = h
+-- a table's columns are as few, and each has a kind
+abbrev is_listed : ℕ → TableAst → Bool
+is_listed more t = declares_kinds t && nat_le (length (declared_kinds t)) (suc more)
 
-abbrev Table : TableAst → Type 0
-Table t = declares_kinds t ≡ true
+few_kinds : (more : ℕ) (cs : List (List ℕ × Kind)) → Long (suc more) cs → nat_le (length (kinds_of_columns cs)) (suc more) ≡ true
+few_kinds more cs h = le-leb (length (kinds_of_columns cs)) (suc more) (subst (λ n. n ≤ suc more) (sym (length-map cs (λ (x : List ℕ × Kind). x.1))) h)
 
-create_gives : (more : ℕ) → Gives Table (r.create more)
+or_none : (more : ℕ) (o : Option (List (List ℕ × Kind))) → Maybe (Listed more) o
+    → (are_kinds (kinds_of_columns (or_empty o)) && nat_le (length (kinds_of_columns (or_empty o))) (suc more)) ≡ true
+or_none more None h = few_kinds more [] (omega arith)
+or_none more (Some cs) h = and_from (are_kinds (kinds_of_columns cs)) (nat_le (length (kinds_of_columns cs)) (suc more)) h.0 (few_kinds more cs h.1)
+
+abbrev Table : ℕ → TableAst → Type 0
+Table more t = is_listed more t ≡ true
+
+create_gives : (more : ℕ) → Gives (Table more) (r.create more)
 unfolding r.create
-create_gives more =
-    behind Table (terminal (one c.Create)) _ (λ create_. behind Table (terminal (one c.External)) _ (λ external. behind Table (terminal (one c.Table)) _ (λ table. behind Table (terminal names) _ (λ name.
-    both (Maybe Columns) Table (maybe (one c.Open) (r.columns_of more)) _ (maybe_gives Columns (one c.Open) (r.columns_of more) (columns_give more)) (λ columns h.
-    behind Table (terminal (one c.Stored)) _ (λ stored. behind Table (terminal (one c.As)) _ (λ as_. behind Table (terminal forms) _ (λ form. behind Table (maybe (one c.With) r.header_row) _ (λ header.
-    behind Table (terminal (one c.Location)) _ (λ location. behind Table (terminal (one c.Str)) _ (λ path. behind Table (maybe (one c.Options) (r.settings more)) _ (λ options n ts. or_none columns h))))))))))))
+create_gives more = let T = Table more in
+    behind T (terminal (one c.Create)) _ (λ create_. behind T (terminal (one c.External)) _ (λ external. behind T (terminal (one c.Table)) _ (λ table. behind T (terminal names) _ (λ name.
+    both (Maybe (Listed more)) T (maybe (one c.Open) (r.columns_of more)) _ (maybe_gives (Listed more) (one c.Open) (r.columns_of more) (columns_give more)) (λ columns h.
+    behind T (terminal (one c.Stored)) _ (λ stored. behind T (terminal (one c.As)) _ (λ as_. behind T (terminal forms) _ (λ form. behind T (maybe (one c.With) r.header_row) _ (λ header.
+    behind T (terminal (one c.Location)) _ (λ location. behind T (terminal (one c.Str)) _ (λ path. behind T (maybe (one c.Options) (r.settings more)) _ (λ options n ts. or_none more columns h))))))))))))
 
-abbrev Tables : List TableAst → Type 0
-Tables ts = list_all declares_kinds ts ≡ true
+abbrev Tables : ℕ → List TableAst → Type 0
+Tables more ts = list_all (is_listed more) ts ≡ true
 
-tables_more : (ts : List TableAst) (t : TableAst) → Tables ts → Table t → Tables (ts ++ t ∷ [])
-tables_more [] t h i = and_from (declares_kinds t) true i refl
-tables_more (u ∷ us) t h i = let b = and_parts (declares_kinds u) (list_all declares_kinds us) h in and_from (declares_kinds u) _ b.0 (tables_more us t b.1 i)
+tables_more : (more : ℕ) (ts : List TableAst) (t : TableAst) → Tables more ts → Table more t → Tables more (ts ++ t ∷ [])
+tables_more more [] t h i = and_from (is_listed more t) true i refl
+tables_more more (u ∷ us) t h i = let b = and_parts (is_listed more u) (list_all (is_listed more) us) h in and_from (is_listed more u) _ b.0 (tables_more more us t b.1 i)
 
-declared_gives : (more : ℕ) (tables : List TableAst) → Tables tables → Gives Tables (r.declared more tables)
+declared_gives : (more : ℕ) (tables : List TableAst) → Tables more tables → Gives (Tables more) (r.declared more tables)
 unfolding r.declared
-declared_gives more tables h = both Table Tables (r.create more) _ (create_gives more) (λ t i. behind Tables (terminal (one c.Semicolon)) (λ semicolon. pure (tables ++ t ∷ [])) (λ u n ts. tables_more tables t h i))
+declared_gives more tables h = both (Table more) (Tables more) (r.create more) _ (create_gives more) (λ t i. behind (Tables more) (terminal (one c.Semicolon)) (λ semicolon. pure (tables ++ t ∷ [])) (λ u n ts. tables_more more tables t h i))
 
 -- ---- selects
 
@@ -234,10 +292,10 @@ module _ (l : Limits) (d : ℕ) (below : Readers) (nested : Gives Selects below.
   from_gives = either_gives From (one c.Open) (r.derived_table l d below) (r.table_name l d below) derived_gives named_gives
 
   join_gives : (joins : List JoinAst) → Joins joins → Gives Joins (r.join_of l d below joins)
-  unfolding r.join_of joined
+  unfolding r.join_of join_ast
   join_gives joins h =
-      behind Joins (r.join_words l d below) _ (λ k. both From Joins (r.from_of l d below) _ from_gives (λ right i. behind Joins (terminal (one c.On)) _ (λ on. behind Joins (r.whole l d below) _ (λ e n ts.
-      one_more join_has_items joins (joined k right e) h (join_items (record { kind = k; right = right; on = e }) ∙ i)))))
+      behind Joins (r.join_words l d below) _ (λ k. both From Joins (r.from_of l d below) _ from_gives (λ right i. behind Joins (terminal (one c.On)) _ (λ on. behind Joins (r.whole_expr l d below) _ (λ e n ts.
+      one_more join_has_items joins (join_ast k right e) h (join_items (record { kind = k; right = right; on = e }) ∙ i)))))
 
   items_give : Gives Items (r.listed r.item_first l.more (r.select_item l d below))
   items_give = listed_gives Items r.item_first l.more (r.select_item l d below)
@@ -273,34 +331,52 @@ under_gives l (suc d) = union_gives l d (r.under l d) (under_gives l d)
 
 -- ---- scripts
 
-abbrev pub IsScript : Script → Type 0
-IsScript s = (has_items s ≡ true) × (list_all declares_kinds s.tables ≡ true)
+abbrev pub IsScript : ℕ → Script → Type 0
+IsScript more s = (has_items s ≡ true) × (list_all (is_listed more) s.tables ≡ true)
 
-script_gives : (l : Limits) (tables d : ℕ) → Gives IsScript (r.script_within l tables d)
+script_gives : (l : Limits) (tables d : ℕ) → Gives (IsScript l.more) (r.script_within l tables d)
 unfolding r.script_within
-script_gives l tables d =
-    both Tables IsScript (up_to (one c.Create) (r.declared l.more) (over too_many (one c.Create)) tables []) _
-    (up_to_gives Tables (one c.Create) (r.declared l.more) (over too_many (one c.Create)) (declared_gives l.more) (over_gives Tables too_many (one c.Create)) tables [] refl) (λ declared h.
-    both Selects IsScript (r.union_of l d (r.under l d)) _ (union_gives l d (r.under l d) (under_gives l d)) (λ parts i.
-    behind IsScript (maybe (one c.Order) (r.order_by l d (r.under l d))) _ (λ order. behind IsScript (maybe (one c.Limit) (r.number l d (r.under l d) c.Limit)) _ (λ limit.
-    behind IsScript (maybe (one c.Offset) (r.number l d (r.under l d) c.Offset)) _ (λ offset. behind IsScript (maybe (one c.Semicolon) (terminal (one c.Semicolon))) _ (λ end n ts. (i, h)))))))
+script_gives l tables d = let T = Tables l.more in let S = IsScript l.more in
+    both T S (up_to (one c.Create) (r.declared l.more) (over too_many (one c.Create)) tables []) _
+    (up_to_gives T (one c.Create) (r.declared l.more) (over too_many (one c.Create)) (declared_gives l.more) (over_gives T too_many (one c.Create)) tables [] refl) (λ declared h.
+    both Selects S (r.union_of l d (r.under l d)) _ (union_gives l d (r.under l d) (under_gives l d)) (λ parts i.
+    behind S (maybe (one c.Order) (r.order_by l d (r.under l d))) _ (λ order. behind S (maybe (one c.Limit) (r.number l d (r.under l d) c.Limit)) _ (λ limit.
+    behind S (maybe (one c.Offset) (r.number l d (r.under l d) c.Offset)) _ (λ offset. behind S (maybe (one c.Semicolon) (terminal (one c.Semicolon))) _ (λ end n ts. (i, h)))))))
 
-end_gives : (s : Script) → IsScript s → Gives IsScript (at_end s)
-end_gives s h n [] = h
-end_gives s h n (t ∷ ts) = tt
+end_gives : (P : Script → Type 0) (s : Script) → P s → Gives P (at_end s)
+end_gives P s h n [] = h
+end_gives P s h n (t ∷ ts) = tt
 
-answered : (end : ℕ) (x : Read Script) (s : Script) → IsRead IsScript x → answer end x ≡ Ok s → IsScript s
-answered end (done a n rest) s h e = let q : a ≡ s = cc in subst IsScript q h
-answered end (stop k rest) s h e = go k e
+answered : (P : Script → Type 0) (end : ℕ) (x : Read Script) (s : Script) → IsRead P x → answer end x ≡ Ok s → P s
+answered P end (done a n rest) s h e = let q : a ≡ s = cc in subst P q h
+answered P end (stop k rest) s h e = go k e
   where
-    go : (k : Stop) → answer end (stop k rest) ≡ Ok s → IsScript s
+    go : (k : Stop) → answer end (stop k rest) ≡ Ok s → P s
     go unexpected e = cc
     go too_deep e = cc
     go too_many e = cc
 
--- the script that a text spells has items, and its tables have kinds
-pub spelled : (text : List ℕ) (tokens : List lexed.Token) (script : Script) → parsed text tokens ≡ Ok script → IsScript script
+all_kinds : (more : ℕ) (ts : List TableAst) → list_all (is_listed more) ts ≡ true → list_all declares_kinds ts ≡ true
+all_kinds more [] h = refl
+all_kinds more (t ∷ ts) h =
+    let a = and_parts (is_listed more t) (list_all (is_listed more) ts) h in
+    and_from (declares_kinds t) (list_all declares_kinds ts) (and_parts (declares_kinds t) (nat_le (length (declared_kinds t)) (suc more)) a.0).0 (all_kinds more ts a.1)
+
+all_few : (ts : List TableAst) → list_all (is_listed 255) ts ≡ true → list_all are_few (map declared_kinds ts) ≡ true
+all_few [] h = refl
+all_few (t ∷ ts) h =
+    let a = and_parts (is_listed 255 t) (list_all (is_listed 255) ts) h in
+    and_from (are_few (declared_kinds t)) (list_all are_few (map declared_kinds ts)) (and_parts (declares_kinds t) (are_few (declared_kinds t)) a.0).1 (all_few ts a.1)
+
+-- the script that a text spells has items, and its tables have kinds, at most 256 each
+pub record IsSpelled (s : Script) : Type 0 where
+  pub items : has_items s ≡ true
+  pub kinds : list_all declares_kinds s.tables ≡ true
+  pub few : list_all are_few (map declared_kinds s.tables) ≡ true
+
+pub spelled : (text : List ℕ) (tokens : List lexed.Token) (script : Script) → parsed text tokens ≡ Ok script → IsSpelled script
 unfolding read
 spelled text tokens script e =
-    answered (length text) (read (tokens_of text tokens)) script
-    (both IsScript IsScript (r.script_at 0) at_end (script_gives (limits 0) (beyond 0 64) (beyond 0 64)) end_gives 0 (tokens_of text tokens)) e
+    let h : IsScript 255 script = answered (IsScript 255) (length text) (read (tokens_of text tokens)) script
+    (both (IsScript 255) (IsScript 255) (r.script_at 0) at_end (script_gives (limits 0) (beyond 0 64) (beyond 0 64)) (end_gives (IsScript 255)) 0 (tokens_of text tokens)) e in
+    record { items = h.0; kinds = all_kinds 255 script.tables h.1; few = all_few script.tables h.1 }

@@ -19,6 +19,7 @@ ghost use Rattle.sql_tables.specs.declared.table.Table.{Table as ATable};
 ghost use Rattle.sql_tables.specs.Tables.{tables};
 ghost use Rattle.sql_binder.specs.Sources.{kinds};
 ghost use Rattle.sql_binder.specs.Bound.{bound};
+ghost use Rattle.binder_kind_laws.specs.Scans.{has_sound_scans};
 ghost use Rattle.binder_kind_laws.specs.Scripts.{has_items, are_whole, kinds_of, declared_schema, declared_kinds};
 
 /// What an expression means over columns has the kind that is told with it, and its constants fit
@@ -27,8 +28,9 @@ ghost use Rattle.binder_kind_laws.specs.Scripts.{has_items, are_whole, kinds_of,
 /// The query that a script means over tables, each with a kind for each name, is well-kinded over
 /// them (`queries`) and has a name for each of its columns (`names`). The premise on the script is
 /// that each select has an item. A script that a text spells has them, and kinds for the columns
-/// that it declares: so its query is well-kinded over its tables (`spelled`), with a name for each
-/// of its columns (`named`).
+/// that it declares, at most 256 a table: so its query is well-kinded over its tables (`spelled`),
+/// with a name for each of its columns (`named`), and the kinds of each Scan in it are kinds, and
+/// as few (`scans`).
 pub fn kinded_law()
     ensures expressions { (columns : Columns) (e : AExprAst) (t : ATyped)
         → are_kinds (kinds columns) ≡ true → meaning columns e None ≡ Ok t
@@ -43,6 +45,9 @@ pub fn kinded_law()
     ensures spelled { (text : List ℕ) (tokens : List AToken) (script : AScript) (q : AQuery)
         → parsed text tokens ≡ Ok script → bound script (map declared_schema script.tables) ≡ Ok q
         → is_well_kinded (map declared_kinds script.tables) q.body ≡ true }
+    ensures scans { (text : List ℕ) (tokens : List AToken) (script : AScript) (q : AQuery)
+        → parsed text tokens ≡ Ok script → bound script (map declared_schema script.tables) ≡ Ok q
+        → has_sound_scans q.body ≡ true }
     ensures named { (text : List ℕ) (tokens : List AToken) (script : AScript) (q : AQuery)
         → parsed text tokens ≡ Ok script → bound script (map declared_schema script.tables) ≡ Ok q
         → length q.names ≡ length (body.kinds q.body) }

@@ -23,7 +23,7 @@ use Rattle.sql_tables.specs.declared.table.Table.{Table}
 use Rattle.sql_binder.specs.declared.sources.Source.{Source}
 use Rattle.sql_binder.specs.declared.selected.Selected.{Selected}
 use Rattle.sql_tables.specs.Tables.{columns_under}
-use Rattle.sql_binder.specs.Sources.{kinds, scanned, number_of_table, names_at, kinds_at, table, derived, Reading, Joining, if_new, under_new_alias, condition, side, joined_body, joined_on, joined, all_joined, from, filtered}
+use Rattle.sql_binder.specs.Sources.{kinds, scanned, number_of_table, names_at, kinds_at, table, derived, Reading, Joining, if_new, under_new_alias, condition, side, joined_body, joined_on, joined_source, all_joined, from, filtered}
 use Rattle.sql_binder.specs.Selects.{Parts, Selecting, union_of, selected, select, reading_of, joining_of}
 use Rattle.binder_laws.proofs.Trees.{select_is, joining_is, named_is, derived_is}
 use Rattle.join_lowering.specs.Keys.{columns}
@@ -81,12 +81,12 @@ on_good kind left right on hl hr =
     (λ body e. lowered_stands kind (side left) (side right) hl hr test (subst (λ (n : ℕ). Reads n test) (length-append left.columns right.columns) h) body e)))
     (λ body g. (g.0, g.1 ∙ sym (length-append left.columns right.columns)))
 
-joined_good : (left : Source) (j : Joining) → Sourced left → JoinsWell j → Holds Sourced (joined left j)
+joined_good : (left : Source) (j : Joining) → Sourced left → JoinsWell j → Holds Sourced (joined_source left j)
 joined_good left j h i = after Sourced Sourced (under_new_alias left.columns j.right) (λ right. joined_on j.kind left right j.on) (under_good left.columns j.right i) (λ right g. on_good j.kind left right j.on h g)
 
 all_good : (left : Source) (js : List Joining) → Sourced left → Every JoinsWell js → Holds Sourced (all_joined left js)
 all_good left [] h i = h
-all_good left (j ∷ js) h i = after Sourced Sourced (joined left j) (λ next. all_joined next js) (joined_good left j h i.0) (λ next g. all_good next js g i.1)
+all_good left (j ∷ js) h i = after Sourced Sourced (joined_source left j) (λ next. all_joined next js) (joined_good left j h i.0) (λ next g. all_good next js g i.1)
 
 from_good : (first : Reading) (js : List Joining) → ReadsWell first → Every JoinsWell js → Holds Sourced (from first js)
 from_good first js h i = after Sourced Sourced (under_new_alias [] first) (λ left. all_joined left js) (under_good [] first h) (λ left g. all_good left js g i)

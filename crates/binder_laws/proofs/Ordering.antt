@@ -13,7 +13,7 @@ use Rattle.typed_exprs.specs.Answer.{Answer, refuse}
 use Rattle.typed_exprs.specs.Literals.{has_point}
 use Rattle.typed_exprs.specs.Scopes.{is_text}
 use Rattle.expr_binder.specs.Meaning.{place_of}
-use Rattle.sql_binder.specs.Orders.{Single, item_tests, first_from, number_from, item_of, named_from, named_or, whole, position, column_of_key, sort_key, key_of, order}
+use Rattle.sql_binder.specs.Orders.{Single, item_tests, first_from, number_from, item_of, named_from, named_or, whole_number, position, column_of_key, sort_key, key_of, order}
 use Rattle.physical_plan.proofs.Everywhere.{both_true, and_parts}
 use Rattle.planned_laws.specs.Ranges.{are_below, key_columns}
 use Rattle.binder_laws.proofs.Holding.{Holds, after, where_some, weaker, Every, AreSo, each_holds, every_of}
@@ -71,9 +71,9 @@ module _ (names : List (List ℕ)) (single : Option Single) (many : (s : Single)
       go : (z : NodeAst-F NodeAst ExprAst) → out-NodeAst (out-ExprAst e).node ≡ z → Holds IsColumn (column_of_key names single e)
       go (NodeAst-F.Number text) p = rw p (number (has_point text))
         where
-          number : (b : Bool) → Holds IsColumn (cond {A = Answer ℕ} b (item_of single e) (position (length names) (place_of e) (whole text)))
+          number : (b : Bool) → Holds IsColumn (cond {A = Answer ℕ} b (item_of single e) (position (length names) (place_of e) (whole_number text)))
           number true = item
-          number false = position_column (place_of e) (whole text)
+          number false = position_column (place_of e) (whole_number text)
       go (NodeAst-F.Name None name) p = rw p (only_column (named_from 0 name names) (place_of e) (item_of single e) (named_below name names 0 (length names) (omega arith)) item)
       go (NodeAst-F.Name (Some alias) name) p = rw p item
       go (NodeAst-F.Str t) p = rw p item

@@ -17,7 +17,7 @@ use Rattle.typed_exprs.specs.Answer.{◌>>=◌}
 use Rattle.typed_exprs.specs.Case.{tests, results, arm_as, chosen}
 use Rattle.typed_exprs.specs.Typed.{Kinded, given, settled, kind_or, or_mismatch, of_kind, unary, alone, operator_kind, binary, common, as_kind, coalesced, tested}
 use Rattle.join_lowering.specs.Keys.{columns}
-use Rattle.join_lowering.specs.Words.{arm_columns, all_columns}
+use Rattle.join_lowering.specs.SidesUsed.{arm_columns, all_columns}
 use Rattle.join_lowering.proofs.Nodes.{columns-Column, columns-Const, columns-Not, columns-Neg, columns-IsNull, columns-Binary, columns-Case, columns-Coalesce, columns-Cast}
 use Rattle.planned_laws.specs.Ranges.{are_below}
 use Rattle.planned_laws.proofs.Below.{below_append}

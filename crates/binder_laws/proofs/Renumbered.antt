@@ -11,7 +11,7 @@ use Rattle.scalar_exprs.specs.declared.expr.Expr.TheFolds.{map-Expr, ind-Expr}
 use Rattle.scalar_exprs.specs.declared.expr.Expr.TheVariants.{Not, Neg, IsNull, Cast, Abs, Length, rolls-Column, rolls-Const, rolls-Not, rolls-Neg, rolls-IsNull, rolls-Binary, rolls-Case, rolls-Coalesce, rolls-Cast, rolls-Abs, rolls-Length}
 use Rattle.join_lowering.specs.Keys.{columns}
 use Rattle.join_lowering.specs.Lowering.{renumbered, without_left, spread}
-use Rattle.join_lowering.specs.Words.{arm_columns, all_columns, renumbered_arms}
+use Rattle.join_lowering.specs.SidesUsed.{arm_columns, all_columns, renumbered_arms}
 use Rattle.join_lowering.proofs.Nodes.{columns-Column, columns-Const, columns-Not, columns-Neg, columns-IsNull, columns-Binary, columns-Case, columns-Coalesce, columns-Cast, columns-Abs, columns-Length, renumbered-Column, renumbered-Const, renumbered-Not, renumbered-Neg, renumbered-IsNull, renumbered-Binary, renumbered-Case, renumbered-Coalesce, renumbered-Cast, renumbered-Abs, renumbered-Length}
 use Rattle.physical_plan.proofs.Everywhere.{both_true, and_parts}
 use Rattle.planned_laws.specs.Ranges.{are_below}

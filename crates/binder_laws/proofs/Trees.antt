@@ -10,9 +10,9 @@ use Rattle.sql_grammar.specs.declared.ast.FromAst.TheViews.{out-SelectAst, out-J
 use Rattle.typed_exprs.specs.Answer.{◌>>=◌}
 use Rattle.sql_tables.specs.declared.table.Table.{Table}
 use Rattle.sql_binder.specs.Sources.{Reading, Joining, table, derived, from, filtered}
-use Rattle.sql_binder.specs.Selects.{Selecting, reading, joining, selecting, select, reading_of, joining_of, union_of, selected, parts}
+use Rattle.sql_binder.specs.Selects.{Selecting, reading, joining, selecting, select, reading_of, joining_of, union_of, selected, select_parts}
 
-pub select_is : (tables : List Table) (s : SelectAst) → select tables s ≡ record { place = (out-SelectAst s).place; select = from (reading_of tables (out-SelectAst s).first) (map (joining_of tables) (out-SelectAst s).joins) >>= filtered (out-SelectAst s).test >>= selected (parts s) }
+pub select_is : (tables : List Table) (s : SelectAst) → select tables s ≡ record { place = (out-SelectAst s).place; select = from (reading_of tables (out-SelectAst s).first) (map (joining_of tables) (out-SelectAst s).joins) >>= filtered (out-SelectAst s).test >>= selected (select_parts s) }
 unfolding select reading_of joining_of
 select_is tables s = fold_out-SelectAst Reading Joining Selecting (reading tables) joining selecting s
 

@@ -12,6 +12,7 @@ ghost use Rattle.dfx_value.specs.declared.value.Value.TheVariants as value;
 ghost use Rattle.value_columns.specs.Cells.{value_of};
 ghost use Rattle.value_columns.specs.Masked.{masked};
 ghost use Rattle.value_columns.specs.Columns.{Kinded, or_null};
+ghost use Rattle.value_columns.specs.Storage.{at_scale};
 ghost use Rattle.column_batch.specs.Batches.{row_at, rows_at, kept, cut, cells_at, kinds_at, column_of};
 ghost use Rattle.column_batch.specs.Parts.{places_from, all_chosen, part_size};
 
@@ -83,6 +84,13 @@ impl Batch {
         ensures kinded { all_are self.now.kinds self.now.rows ≡ true }
     {
         self.rows
+    }
+
+    /// How many columns there are.
+    pub fn width(&self) -> usize
+        ensures { result ≡ length self.now.kinds }
+    {
+        self.columns.len()
     }
 
     /// A copy of the row at a place.
@@ -188,6 +196,18 @@ impl Batch {
         self.columns[at as usize]
             .column()
             .truths(self.from, self.from + self.rows)
+    }
+
+    /// The unscaled numbers of a column's decimals where they stand, with a mask as that of `ints`.
+    pub fn decimals(&self, at: u32, precision: u8, scale: u8) -> (&[i128], &[bool])
+        requires column { at < length self.now.kinds }
+        requires kind { slice_index_or self.now.kinds at kind.Bool ≡ kind.Dec precision scale }
+        ensures { map (or_null (at_scale scale)) (masked result.0.now result.1.now)
+            ≡ column_of self.now.rows at }
+    {
+        self.columns[at as usize]
+            .column()
+            .decimals(precision, scale, self.from, self.from + self.rows)
     }
 
     /// Appends the printed text of a cell: nothing for NULL. After want of memory the text begins

@@ -15,7 +15,8 @@ use Rattle.csv_source.specs.declared.refused.CsvRefused.TheVariants as refused
 use Rattle.csv_source.specs.CsvItems.{Item, items_from, record_item, cells_from, field_value}
 use Rattle.csv_records.specs.Left.{Ahead, Fields, Takes, HasNone, records_left, records_at, between}
 use Rattle.csv_source.specs.Scans.{rows_then}
-use Rattle.csv_source.specs.ScanView.{GivesRows, IsRefused}
+use Rattle.csv_source.specs.ScanView.{GivesRows}
+use Rattle.csv_columns.specs.ScanView.{IsRefusedBehind}
 use Rattle.csv_columns.specs.Left.{items_left}
 use Rattle.csv_columns.specs.declared.reading.Given.{Given}
 
@@ -65,10 +66,10 @@ gives_short count items rows (Some xs) start none e is short =
     record { next = whole ∙ sym (take_all count items size); rest = ap Some (sym (drop_all count items size)) }
 
 pub refused_after : (count : ℕ) (items : List Item) (rows : List (List Cell)) (now start : Option (List Item)) (e : _)
-    → ((xs : List Item) → now ≡ Some xs → xs ≡ Err e ∷ []) → option_map (rows_then rows) now ≡ start → start ≡ Some items → length rows < count → IsRefused count items e
+    → ((xs : List Item) → now ≡ Some xs → xs ≡ Err e ∷ []) → option_map (rows_then rows) now ≡ start → start ≡ Some items → length rows < count → IsRefusedBehind count items rows e
 refused_after count items rows None start e last whole is few = cc
 refused_after count items rows (Some xs) start e last whole is few =
-    record { rows = rows; few = few; is = sym (joined items rows (Err e ∷ []) (Some xs) start (ap Some (last xs refl)) whole is) }
+    record { few = few; is = sym (joined items rows (Err e ∷ []) (Some xs) start (ap Some (last xs refl)) whole is) }
 
 -- ---- a record that goes to the ends of columns
 
@@ -152,13 +153,13 @@ record_refused n old fields e o now items t h is = items_refused o now (kinds_of
 
 -- ---- a batch that is given
 
-pub given_gives : (r : Result Given CsvRefused) (count : ℕ) (items : List Item) (rows : List (List Cell)) (ended : Bool) (later : Option (List Item))
+pub given_gives : {E : Type 0} (r : Result Given E) (count : ℕ) (items : List Item) (rows : List (List Cell)) (ended : Bool) (later : Option (List Item))
     → IfOk r (λ given. given.batch.rows ≡ rows) → IfOk r (λ given. given.ended ≡ ended) → GivesRows count items rows (cond ended (Some []) later)
     → IfOk r (λ given. GivesRows count items given.batch.rows (cond given.ended (Some []) later))
 given_gives (Ok given) count items rows ended later a b h = rw (a, b) h
 given_gives (Err e) count items rows ended later a b h = search rules
 
-pub given_falls : (r : Result Given CsvRefused) (rows : List (List Cell)) (ended : Bool) (left most : ℕ)
+pub given_falls : {E : Type 0} (r : Result Given E) (rows : List (List Cell)) (ended : Bool) (left most : ℕ)
     → IfOk r (λ given. given.batch.rows ≡ rows) → IfOk r (λ given. given.ended ≡ ended) → length rows + cond ended 0 left ≤ most
     → IfOk r (λ given. length given.batch.rows + cond given.ended 0 left ≤ most)
 given_falls (Ok given) rows ended left most a b h = rw (a, b) h

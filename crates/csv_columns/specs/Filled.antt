@@ -1,5 +1,5 @@
 -- Words: columns that the fields of records fill.
-use Rattle.std.specs.Prelude.{ℕ, ◌≡◌, ◌++◌, Option, List, Result, Ok, option_map, length, All}
+use Rattle.std.specs.Prelude.{ℕ, ◌≡◌, ◌++◌, Option, List, [], ◌∷◌, Result, Ok, option_map, length, take, All, ⊤}
 use Rattle.dfx_value.specs.Checked.{◌>>=◌}
 use Rattle.dfx_value.specs.Parse.{parsed}
 use Rattle.value_columns.specs.Columns.{KindedValues, with_value}
@@ -31,3 +31,14 @@ behind front columns = columns >>= λ more. Ok (front ++ more)
 -- each column has so many values
 abbrev pub Even : ℕ → List KindedValues → Type 0
 Even n columns = All (λ c. length c.values ≡ n) columns
+
+-- the column with values more, or just the column
+pub record Extends (c d : KindedValues) : Type 0 where
+  pub kind : d.kind ≡ c.kind
+  pub front : take (length c.values) d.values ≡ c.values
+
+-- each column with values more, or just the column
+abbrev pub AllExtend : List KindedValues → List KindedValues → Type 0
+AllExtend [] [] = ⊤
+AllExtend (c ∷ cs) (d ∷ ds) = Extends c d × AllExtend cs ds
+AllExtend _ _ = ⊥

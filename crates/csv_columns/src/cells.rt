@@ -1,6 +1,6 @@
 //! A field as the next cell of a column.
 
-ghost use Rattle.std.specs.Prelude.{◌≡◌, ◌≢◌, ◌+◌, ◌^◌, ◌<◌, Ok, Err, Some, None, true, false, length, OnOk};
+ghost use Rattle.std.specs.Prelude.{◌≡◌, ◌≢◌, ◌+◌, ◌^◌, ◌<◌, Ok, Err, Some, None, true, false, length, OnOk, OnErr};
 ghost use Rattle.dfx_value.specs.Parse as spec;
 ghost use Rattle.dfx_value.specs.declared.kind.Kind.TheVariants as kind;
 ghost use Rattle.csv_source.specs.CsvItems.{is_bad};
@@ -20,6 +20,7 @@ fn push_long(alloc: Global, column: &mut Column, field: &[u8]) -> Result<bool, N
     requires room { length column.old.values + 1 < 2 ^ 32 }
     ensures some { result ≡ Ok true → with_text column.old field.now ≡ Some column.new }
     ensures none { result ≡ Ok false → spec.parsed column.old.kind field.now ≡ None }
+    ensures kept { result ≢ Ok true → column.new ≡ column.old }
 {
     match parse_value(alloc, field, column.kind()) {
         Ok(value) => match column.push_value(value) {
@@ -39,6 +40,7 @@ fn push_whole(alloc: Global, column: &mut Column, field: &[u8]) -> Result<bool, 
     requires some { spec.is_empty field.now ≡ false }
     ensures some { result ≡ Ok true → with_text column.old field.now ≡ Some column.new }
     ensures none { result ≡ Ok false → spec.parsed column.old.kind field.now ≡ None }
+    ensures kept { result ≢ Ok true → column.new ≡ column.old }
 {
     let (negative, digits) = sign(field);
     if SHORT < digits.len() {
@@ -68,6 +70,7 @@ fn push_decimal(
     requires some { spec.is_empty field.now ≡ false }
     ensures some { result ≡ Ok true → with_text column.old field.now ≡ Some column.new }
     ensures none { result ≡ Ok false → spec.parsed column.old.kind field.now ≡ None }
+    ensures kept { result ≢ Ok true → column.new ≡ column.old }
 {
     let (negative, rest) = sign(field);
     let (whole, fraction) = halves(rest);
@@ -92,6 +95,7 @@ fn push_truth(column: &mut Column, field: &[u8]) -> Result<bool, NoMemory>
     requires some { spec.is_empty field.now ≡ false }
     ensures some { result ≡ Ok true → with_text column.old field.now ≡ Some column.new }
     ensures none { result ≡ Ok false → spec.parsed column.old.kind field.now ≡ None }
+    ensures kept { result ≢ Ok true → column.new ≡ column.old }
 {
     if field.eq_ignore_ascii_case(b"true") {
         column.push_truth(true)?;
@@ -110,6 +114,7 @@ fn push_text(alloc: Global, column: &mut Column, text: &str) -> Result<bool, NoM
     requires room { length column.old.values + 1 < 2 ^ 32 }
     ensures some { result ≡ Ok true → with_text column.old text.now ≡ Some column.new }
     ensures none { result ≡ Ok false → spec.parsed column.old.kind text.now ≡ None }
+    ensures kept { result ≢ Ok true → column.new ≡ column.old }
 {
     if text.is_empty() {
         column.push_null()?;
@@ -141,6 +146,7 @@ pub fn push_field(
     ensures ok { OnOk result (with_field number at column.old field.now ≡ Ok column.new) }
     ensures refused { (e : Refusal) → result ≡ Err e → is_bad e ≡ true
         → with_field number at column.old field.now ≡ Err e }
+    ensures kept { OnErr result (column.new ≡ column.old) }
     ensures read { result ≢ Err refused.Read }
 {
     let Ok(text) = std::str::from_utf8(field) else {

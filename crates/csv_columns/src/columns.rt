@@ -1,13 +1,13 @@
 //! Columns that records fill.
 
-ghost use Rattle.std.specs.Prelude.{◌≡◌, ◌≢◌, ◌+◌, ◌^◌, ◌<◌, Ok, Err, true, length, All, IfOk, OnOk};
+ghost use Rattle.std.specs.Prelude.{◌≡◌, ◌≢◌, ◌+◌, ◌^◌, ◌<◌, ◌≤◌, Ok, Err, true, length, All, IfOk, OnOk};
 ghost use Rattle.dfx_value.specs.Kinds.{are_kinds};
 ghost use Rattle.column_batch.specs.Batches.{cut, kinds_of};
 ghost use Rattle.column_batch.specs.Parts.{empties};
 ghost use Rattle.csv_source.specs.CsvItems.{is_bad};
 ghost use Rattle.csv_source.specs.declared.refused.CsvRefused.{CsvRefused as Refusal};
 ghost use Rattle.csv_source.specs.declared.refused.CsvRefused.TheVariants as refused;
-ghost use Rattle.csv_columns.specs.Filled.{with_record, Even};
+ghost use Rattle.csv_columns.specs.Filled.{with_record, AllExtend};
 
 use crate::cells::push_field;
 use column_batch::{Batch, Column, Shared};
@@ -30,8 +30,8 @@ pub fn empty_columns(alloc: Global, kinds: &[Kind]) -> Result<Vec<Column>, NoMem
 }
 
 /// Puts the fields of the record that was taken last, the record `number`, at the ends of the columns. After a
-/// refusal the columns are no longer of one length.
-#[tactic(auto, using(crate::proofs::FillSteps::fill_steps))]
+/// refusal the columns are no longer of one length; the values before stay where they were.
+#[tactic(auto, using(crate::proofs::FillSteps::fill_steps, crate::proofs::ExtendSteps::extend_steps))]
 pub fn push_record(
     alloc: Global,
     columns: &mut Vec<Column>,
@@ -44,6 +44,7 @@ pub fn push_record(
         ≡ Ok columns.new.items) }
     ensures refused { (e : Refusal) → result ≡ Err e → is_bad e ≡ true
         → with_record number columns.old.items reader.now.fields ≡ Err e }
+    ensures kept { AllExtend columns.old.items columns.new.items }
     ensures read { result ≢ Err refused.Read }
 {
     if reader.len() != columns.len() {
@@ -67,10 +68,9 @@ fn share_all(alloc: Global, columns: Vec<Column>) -> Result<Vec<Shared>, NoMemor
     Ok(all)
 }
 
-/// The batch of columns that have so many values.
-#[tactic(auto, using(crate::proofs::FillSteps::even_steps))]
+/// The batch of the first rows of columns, so many.
 pub fn batch_of(alloc: Global, columns: Vec<Column>, rows: u32) -> Result<Batch, NoMemory>
-    requires { Even rows columns.items }
+    requires { All (λ c. rows ≤ length c.values) columns.items }
     ensures { IfOk result (λ batch. batch ≡ cut columns.items 0 rows) }
 {
     Ok(Batch::of_columns(share_all(alloc, columns)?, rows))

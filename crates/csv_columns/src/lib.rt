@@ -11,4 +11,4 @@ mod reading;
 mod scan;
 
 pub use csv_source::CsvRefused;
-pub use scan::CsvScan;
+pub use scan::{CsvScan, Front};

@@ -1,16 +1,17 @@
 //! How far a scan has come, and its next steps.
 
-ghost use Rattle.std.specs.Prelude.{◌≡◌, ◌∷◌, [], ◌^◌, ◌+◌, ◌<◌, ◌≤◌, ℕ, List, true, false, length, Ok, Err, Some, IfOk};
+ghost use Rattle.std.specs.Prelude.{◌≡◌, ◌∷◌, [], ◌^◌, ◌+◌, ◌<◌, ◌≤◌, ℕ, List, true, false, length, Ok, Err, Some, IfOk, IfErr};
 ghost use Rattle.dfx_outside.specs.Causes.{Rose};
 ghost use Rattle.dfx_value.specs.Kinds.{are_kinds};
 ghost use Rattle.csv_source.specs.CsvItems.{Item, csv_items, is_bad};
-ghost use Rattle.csv_source.specs.ScanView.{GivesRows, IsRefused};
+ghost use Rattle.csv_source.specs.ScanView.{GivesRows};
 ghost use Rattle.csv_source.specs.declared.refused.CsvRefused.{CsvRefused as Refusal};
 ghost use Rattle.csv_source.specs.declared.refused.CsvRefused.TheVariants as refused;
 ghost use Rattle.csv_columns.specs.Progress.{left_of, most_of, is_begun, IsSound};
+ghost use Rattle.csv_columns.specs.Stops.{StopsIn, IsFront, IsRead};
 
 use crate::columns::{batch_of, empty_columns};
-use crate::reading::{Given, Reading, next_record, read_rows};
+use crate::reading::{Given, Reading, Stopped, next_record, read_rows};
 use column_batch::Batch;
 use csv_records::RecordReader;
 use csv_source::CsvRefused;
@@ -98,7 +99,7 @@ pub fn advance<S: Source>(
     kinds: &[Kind],
     progress: Progress,
     rows: u32,
-) -> Result<Advanced, CsvRefused>
+) -> Result<Advanced, Stopped>
     requires kinds { are_kinds kinds.now ≡ true }
     requires few { length kinds.now < 2 ^ 32 }
     requires begun { is_begun progress ≡ true }
@@ -114,10 +115,12 @@ pub fn advance<S: Source>(
     ensures falls { IfOk result (λ next. length next.batch.rows
         + most_of (S.size source.old) next.progress
         ≤ most_of (S.size source.old) progress) }
-    ensures refused { (items : List Item) (e : Refusal)
+    ensures stopped { (items : List Item)
         → left_of (S.told source.old) kinds.now progress ≡ Some items
-        → result ≡ Err e → is_bad e ≡ true → IsRefused rows items e }
-    ensures read { result ≡ Err refused.Read → Rose (S.faults source.old) (S.faults source.new) }
+        → IfErr result (StopsIn rows items) }
+    ensures front { IfErr result (IsFront kinds.now (most_of (S.size source.old) progress)) }
+    ensures read { IfErr result (λ s. IsRead s
+        → Rose (S.faults source.old) (S.faults source.new)) }
     ensures same { (S.told source.new ≡ S.told source.old)
         × (S.size source.new ≡ S.size source.old) }
     ensures later { S.faults source.old ≤ S.faults source.new }
@@ -125,7 +128,7 @@ pub fn advance<S: Source>(
     match progress {
         Progress::Reading(mut reading) => {
             match read_rows(alloc, source, kinds, &mut reading, rows) {
-                Err(e) => Err(e),
+                Err(stopped) => Err(stopped),
                 Ok(Given { batch, ended }) => {
                     let progress = if ended {
                         Progress::Ended
@@ -137,7 +140,7 @@ pub fn advance<S: Source>(
             }
         }
         Progress::Ended => match empty_batch(alloc, kinds) {
-            Err(_) => Err(CsvRefused::NoMemory),
+            Err(_) => Err(Stopped::Call(CsvRefused::NoMemory)),
             Ok(batch) => Ok(Advanced {
                 batch,
                 progress: Progress::Ended,

@@ -1,17 +1,18 @@
 //! The rows of the records that a reader has left.
 
-ghost use Rattle.std.specs.Prelude.{◌≡◌, ◌≢◌, ◌+◌, ◌^◌, ◌<◌, ◌≤◌, ◌∷◌, [], ℕ, List, true, false, length, Ok, Err, Some, option_map, IfOk, if◌then◌else◌};
+ghost use Rattle.std.specs.Prelude.{◌≡◌, ◌≢◌, ◌+◌, ◌^◌, ◌<◌, ◌≤◌, ◌∷◌, [], ℕ, List, true, false, length, Ok, Err, Some, option_map, IfOk, IfErr, All, if◌then◌else◌};
 ghost use Rattle.csv_records.specs.Left.{records_left, most_left, Takes, HasNone};
 ghost use Rattle.dfx_outside.specs.Causes.{Rose};
 ghost use Rattle.dfx_value.specs.Kinds.{are_kinds};
-ghost use Rattle.column_batch.specs.Batches.{kinds_of, rows_from};
+ghost use Rattle.column_batch.specs.Batches.{kinds_of, rows_from, cut};
 ghost use Rattle.csv_source.specs.CsvItems.{Item, is_bad};
 ghost use Rattle.csv_source.specs.Scans.{rows_then};
-ghost use Rattle.csv_source.specs.ScanView.{GivesRows, IsRefused};
+ghost use Rattle.csv_source.specs.ScanView.{GivesRows};
 ghost use Rattle.csv_source.specs.declared.refused.CsvRefused.{CsvRefused as Refusal};
 ghost use Rattle.csv_source.specs.declared.refused.CsvRefused.TheVariants as refused;
-ghost use Rattle.csv_columns.specs.Filled.{Even};
+ghost use Rattle.csv_columns.specs.Filled.{Even, AllExtend};
 ghost use Rattle.csv_columns.specs.Left.{items_left};
+ghost use Rattle.csv_columns.specs.Stops.{StopsAs, StopsIn, IsFront, IsRead, IsMemory};
 
 use crate::columns::{batch_of, empty_columns, push_record};
 use column_batch::{Batch, Column};
@@ -33,6 +34,15 @@ pub struct Reading {
 pub struct Given {
     pub batch: Batch,
     pub ended: bool,
+}
+
+/// Why no more rows are given.
+#[derive(Drop)]
+pub enum Stopped {
+    /// The record behind the rows of this batch is refused.
+    Record(Batch, CsvRefused),
+    /// The source failed, or there was no memory.
+    Call(CsvRefused),
 }
 
 /// Takes the next record, if there is one.
@@ -57,7 +67,7 @@ pub fn next_record<S: Source>(source: &mut S, reader: &mut RecordReader) -> Resu
 }
 
 /// Puts the row of the next record at the ends of the columns; false where there is no record left.
-#[tactic(auto, using(crate::proofs::ItemSteps::row_steps))]
+#[tactic(auto, using(crate::proofs::ItemSteps::row_steps, crate::proofs::ExtendSteps::extend_steps))]
 fn push_next<S: Source>(
     alloc: Global,
     source: &mut S,
@@ -85,6 +95,7 @@ fn push_next<S: Source>(
         (items_left (S.told source.old) (kinds_of columns.old.items)
         reading.old.number reading.old.reader) }
 
+    ensures kept { AllExtend columns.old.items columns.new.items }
     ensures stands { result ≡ Ok false → columns.new.items ≡ columns.old.items }
     ensures none { result ≡ Ok false → (items : List Item)
         → items_left (S.told source.old) (kinds_of columns.old.items)
@@ -112,7 +123,34 @@ fn push_next<S: Source>(
     }
 }
 
-/// The next rows, so many or all that there are.
+/// Whether a refusal is of the file.
+fn is_of_file(refused: CsvRefused) -> bool
+    ensures { result ≡ is_bad refused }
+{
+    match refused {
+        CsvRefused::Header { .. }
+        | CsvRefused::Fields { .. }
+        | CsvRefused::NotUtf8 { .. }
+        | CsvRefused::Value { .. } => true,
+        CsvRefused::Read | CsvRefused::NoMemory => false,
+    }
+}
+
+/// What a refusal behind the first rows of columns, so many, means.
+fn stop_at(alloc: Global, columns: Vec<Column>, rows: u32, refused: CsvRefused) -> Stopped
+    requires long { All (λ c. rows ≤ length c.values) columns.items }
+    ensures { StopsAs result (cut columns.items 0 rows) refused }
+{
+    if !is_of_file(refused) {
+        return Stopped::Call(refused);
+    }
+    match batch_of(alloc, columns, rows) {
+        Ok(batch) => Stopped::Record(batch, refused),
+        Err(_) => Stopped::Call(CsvRefused::NoMemory),
+    }
+}
+
+/// The next rows, so many or all that there are; where a record among them is refused, the rows in front of it.
 #[tactic(auto, using(crate::proofs::ItemSteps::batch_steps))]
 pub fn read_rows<S: Source>(
     alloc: Global,
@@ -120,7 +158,7 @@ pub fn read_rows<S: Source>(
     kinds: &[Kind],
     reading: &mut Reading,
     rows: u32,
-) -> Result<Given, CsvRefused>
+) -> Result<Given, Stopped>
     requires kinds { are_kinds kinds.now ≡ true }
     requires few { length kinds.now < 2 ^ 32 }
     requires counts { reading.old.number + most_left (S.size source.old) reading.old.reader
@@ -137,21 +175,24 @@ pub fn read_rows<S: Source>(
     ensures falls { IfOk result (λ given. length given.batch.rows
         + (if given.ended then 0 else most_left (S.size source.old) reading.new.reader)
         ≤ most_left (S.size source.old) reading.old.reader) }
-    ensures refused { (items : List Item) (e : Refusal)
+    ensures stopped { (items : List Item)
         → items_left (S.told source.old) kinds.now
         reading.old.number reading.old.reader ≡ Some items
-        → result ≡ Err e → is_bad e ≡ true → IsRefused rows items e }
-    ensures read { result ≡ Err refused.Read → Rose (S.faults source.old) (S.faults source.new) }
+        → IfErr result (StopsIn rows items) }
+    ensures front { IfErr result (IsFront kinds.now
+        (most_left (S.size source.old) reading.old.reader)) }
+    ensures read { IfErr result (λ s. IsRead s
+        → Rose (S.faults source.old) (S.faults source.new)) }
     ensures same { (S.told source.new ≡ S.told source.old)
         × (S.size source.new ≡ S.size source.old) }
     ensures later { S.faults source.old ≤ S.faults source.new }
 {
     let Ok(mut columns) = empty_columns(alloc, kinds) else {
-        return Err(CsvRefused::NoMemory);
+        return Err(Stopped::Call(CsvRefused::NoMemory));
     };
     for at in 0..rows {
         match push_next(alloc, source, reading, &mut columns, at) {
-            Err(e) => return Err(e),
+            Err(refused) => return Err(stop_at(alloc, columns, at, refused)),
             Ok(false) => return batch_given(alloc, columns, at, true),
             Ok(true) => {}
         }
@@ -160,20 +201,21 @@ pub fn read_rows<S: Source>(
 }
 
 /// The batch of columns that have so many values, and whether there are no more.
+#[tactic(auto, using(crate::proofs::FillSteps::even_steps))]
 fn batch_given(
     alloc: Global,
     columns: Vec<Column>,
     rows: u32,
     ended: bool,
-) -> Result<Given, CsvRefused>
+) -> Result<Given, Stopped>
     requires even { Even rows columns.items }
     ensures kinds { IfOk result (λ given. given.batch.kinds ≡ kinds_of columns.items) }
     ensures rows { IfOk result (λ given. given.batch.rows ≡ rows_from columns.items 0 rows) }
     ensures ended { IfOk result (λ given. given.ended ≡ ended) }
-    ensures err { (e : Refusal) → result ≡ Err e → e ≡ refused.NoMemory }
+    ensures err { IfErr result IsMemory }
 {
     match batch_of(alloc, columns, rows) {
         Ok(batch) => Ok(Given { batch, ended }),
-        Err(_) => Err(CsvRefused::NoMemory),
+        Err(_) => Err(Stopped::Call(CsvRefused::NoMemory)),
     }
 }

@@ -1,14 +1,16 @@
 //! A CSV file as a scan: its bytes are read as its rows are asked for, a batch of columns at a time.
 
-ghost use Rattle.std.specs.Prelude.{◌≡◌, ◌^◌, ◌+◌, ◌<◌, ◌≤◌, ℕ, List, true, false, length, Ok, Err, Some, IfOk, IfErr, OnOk, OnErr, option_map};
+ghost use Rattle.std.specs.Prelude.{◌≡◌, ◌^◌, ◌+◌, ◌<◌, ◌≤◌, ℕ, List, true, false, length, Ok, Err, Some, None, IfOk, IfErr, IfSome, OnOk, OnErr, ◌∷◌, [], option_map};
 ghost use Rattle.dfx_outside.specs.Causes.{Rose};
 ghost use Rattle.dfx_value.specs.Kinds.{are_kinds};
 ghost use Rattle.csv_source.specs.CsvItems.{Item, csv_items, is_bad};
 ghost use Rattle.csv_source.specs.ScanView.{GivesRows, IsRefused};
+ghost use Rattle.csv_columns.specs.ScanView.{GivesFront, is_some};
 ghost use Rattle.csv_source.specs.declared.refused.CsvRefused.{CsvRefused as Refusal};
 ghost use Rattle.csv_source.specs.declared.refused.CsvRefused.TheVariants as refused;
 
 use crate::progress::{Advanced, Progress, advance, begin};
+use crate::reading::Stopped;
 use column_batch::Batch;
 use csv_source::CsvRefused;
 use dfx_outside::Source;
@@ -16,6 +18,25 @@ use dfx_value::Kind;
 use std::alloc::Global;
 use std::marker::Model;
 use std::mem;
+
+/// Rows of a file, and the refusal of the record behind them, if it is refused.
+#[derive(Drop)]
+pub struct Front {
+    pub batch: Batch,
+    pub refused: Option<CsvRefused>,
+}
+
+/// The rows, or the refusal behind them.
+fn whole(front: Front) -> Result<Batch, CsvRefused>
+    ensures ok { IfOk result (λ batch. (batch ≡ front.batch) × (front.refused ≡ None)) }
+    ensures err { IfErr result (λ e. front.refused ≡ Some e) }
+{
+    let Front { batch, refused } = front;
+    match refused {
+        None => Ok(batch),
+        Some(refused) => Err(refused),
+    }
+}
 
 /// A scan of a CSV file whose columns have these kinds.
 pub struct CsvScan<S: Source> {
@@ -69,8 +90,55 @@ impl<S: Source> CsvScan<S> {
         })
     }
 
+    /// The next rows of the file, `rows` of them or all that are left: fewer mean that the file has ended. Where a
+    /// record among them is refused, the rows in front of it, and why. After a refusal only `into_source` may be called.
+    pub fn next_front(&mut self, rows: u32) -> Result<Front, CsvRefused>
+        requires some { 0 < rows }
+        requires going { self.old.refused ≡ false }
+
+        ensures kinds { IfOk result (λ front. front.batch.kinds ≡ self.old.kinds) }
+        ensures gives { (items : List Item) → self.old.left ≡ Some items
+            → IfOk result (λ front. GivesFront rows items
+            front.batch.rows front.refused self.new.left) }
+        ensures bad { IfOk result (λ front. IfSome front.refused (λ e. is_bad e ≡ true)) }
+        ensures falls { IfOk result (λ front. length front.batch.rows + self.new.most
+            ≤ self.old.most) }
+        ensures ends { IfOk result (λ front. self.new.refused ≡ is_some front.refused) }
+        ensures ended { OnErr result (self.new.refused ≡ true) }
+
+        // A file whose header is refused has no other item.
+        ensures refused { (items : List Item) (e : Refusal) → self.old.left ≡ Some items
+            → result ≡ Err e → is_bad e ≡ true → items ≡ Err e ∷ [] }
+        ensures read { result ≡ Err refused.Read
+            → Rose (S.faults self.old.source) (S.faults self.new.source) }
+
+        ensures same { (S.told self.new.source ≡ S.told self.old.source)
+            × (self.new.kinds ≡ self.old.kinds) }
+        ensures later { S.faults self.old.source ≤ S.faults self.new.source }
+    {
+        let progress = match mem::replace(&mut self.progress, Progress::Refused) {
+            Progress::Unread => begin(self.alloc, &mut self.source, &self.kinds)?,
+            begun => begun,
+        };
+        match advance(self.alloc, &mut self.source, &self.kinds, progress, rows) {
+            Ok(Advanced { batch, progress }) => {
+                self.progress = progress;
+                Ok(Front {
+                    batch,
+                    refused: None,
+                })
+            }
+            Err(Stopped::Record(batch, refused)) => Ok(Front {
+                batch,
+                refused: Some(refused),
+            }),
+            Err(Stopped::Call(refused)) => Err(refused),
+        }
+    }
+
     /// The next rows of the file, `rows` of them or all that are left: fewer mean that the file has ended.
     /// After a refusal only `into_source` may be called.
+    #[tactic(auto, using(crate::proofs::FrontSteps::front_steps))]
     pub fn next(&mut self, rows: u32) -> Result<Batch, CsvRefused>
         requires some { 0 < rows }
         requires going { self.old.refused ≡ false }
@@ -93,19 +161,10 @@ impl<S: Source> CsvScan<S> {
             × (self.new.kinds ≡ self.old.kinds) }
         ensures later { S.faults self.old.source ≤ S.faults self.new.source }
     {
-        let progress = match mem::replace(&mut self.progress, Progress::Refused) {
-            Progress::Unread => begin(self.alloc, &mut self.source, &self.kinds)?,
-            begun => begun,
-        };
-        let Advanced { batch, progress } = advance(
-            self.alloc,
-            &mut self.source,
-            &self.kinds,
-            progress,
-            rows,
-        )?;
-        self.progress = progress;
-        Ok(batch)
+        match self.next_front(rows) {
+            Ok(front) => whole(front),
+            Err(refused) => Err(refused),
+        }
     }
 
     /// The source.

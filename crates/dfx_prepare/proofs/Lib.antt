@@ -3,3 +3,4 @@ pub mod Listed
 pub mod TableSteps
 pub mod ScriptSteps
 pub mod WholeSteps
+pub mod Meant

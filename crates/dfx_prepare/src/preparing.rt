@@ -1,12 +1,16 @@
 //! From the text of a script to a finished plan.
 
-ghost use Rattle.std.specs.Prelude.{◌≡◌, ◌<◌, ◌≤◌, ◌^◌, ℕ, List, All, Some, Ok, Err, IfOk, IfErr, length, map};
+ghost use Rattle.std.specs.Prelude.{◌≡◌, ◌<◌, ◌≤◌, ◌^◌, ℕ, List, All, Some, Ok, Err, true, IfOk, IfErr, length, map};
 ghost use Rattle.dfx_outside.specs.Causes.{Rose};
 ghost use Rattle.dfx_outside.specs.Contents.{Contents};
 ghost use Rattle.sql_lexer.specs.Parts.{IsToken};
 ghost use Rattle.sql_grammar.specs.Parsed.{parsed};
 ghost use Rattle.sql_binder.specs.Bound.{bound};
 ghost use Rattle.sql_binder.specs.Refusals.{IsBound};
+ghost use Rattle.sql_grammar.specs.declared.ast.Script.{Script as AScript};
+ghost use Rattle.kind_laws.specs.Kinded.{is_well_kinded};
+ghost use Rattle.binder_kind_laws.specs.Scripts.{declared_kinds};
+ghost use Rattle.binder_kind_laws.specs.Scans.{has_sound_scans};
 ghost use Rattle.planned_laws.specs.Queries.{QueryInRange};
 ghost use Rattle.planned_laws.specs.Wholly.{IsWhollyPlanned};
 ghost use Rattle.dfx_prepare.specs.Outcomes.{Answers, IsPreparing, IsQuerying, IsReading, OrMemory};
@@ -197,6 +201,14 @@ pub fn prepare<F: Files>(
     ensures whole { IfOk result (λ p. spec.IsOfText script.now partitions p) }
     ensures planned { IfOk result
         (λ p. IsWhollyPlanned p.query (map length p.paths) p.plan partitions) }
+
+    // Its query is well-kinded over the tables that the script declares.
+    ensures kinded { (spelled : AScript) → spec.script_of script.now ≡ Ok spelled
+        → IfOk result
+        (λ p. is_well_kinded (map declared_kinds spelled.tables) p.query.body ≡ true) }
+
+    // Each Scan of its query has at most 256 columns, of kinds that are kinds.
+    ensures scans { IfOk result (λ p. has_sound_scans p.query.body ≡ true) }
 
     // The files stay, and their counts tell of absences and faults.
     ensures same { F.told files.new ≡ F.told files.old }

@@ -12,11 +12,11 @@ use Rattle.failure_text.specs.declared.failure.Failure.{Failure}
 use Rattle.failure_text.specs.declared.failure.Failure.TheVariants as failure
 use Rattle.dfx_prepare.specs.declared.prepared.Prepared.{Prepared}
 use Rattle.dfx_top.specs.Answers.{EndedQuery, EndedExplain, EndedOf, Partly, text_of}
-use Rattle.dfx_top.specs.Asked.{Ready, ready, by_script, by_text, by_words, by_asked, asked, not_run, text_at, script_text}
-use Rattle.dfx_top.specs.Words.{request_of, Asked as Wanted}
+use Rattle.dfx_top.specs.Requests.{Ready, ready, by_script, by_text, by_words, by_asked, asked, not_run, text_at, script_text}
+use Rattle.dfx_top.specs.CommandWords.{request_of, Command}
 use Rattle.dfx_top.specs.Outcomes.{IsCalledFor, IsMet, IsDone, IsWriting, IsOpening, IsTextRefused, of_result}
 use Rattle.dfx_outside.specs.Causes.{Rose}
-use Rattle.dfx_top.specs.Told.{Told, ToldQuery, Quiet}
+use Rattle.dfx_top.specs.Endings.{EndsRight, QueryEndsRight, Quiet}
 use Rattle.dfx_top.proofs.FaultSteps.{rose_since}
 use Rattle.dfx_top.specs.declared.words.Request.{Request}
 use Rattle.dfx_top.specs.declared.words.Request.TheVariants as request
@@ -48,11 +48,11 @@ IsAnswer (Err f) = ⊥
 module _ (all : Contents) (before : List ℕ) (now : Option (List ℕ)) (quiet : Type 0) where
   -- ---- a request that was carried out
 
-  pub told_query : (p : Prepared) (f : Option Failure) → ToldQuery all before p now quiet f → Told all before (Ok (request.Query, p)) now quiet f
+  pub told_query : (p : Prepared) (f : Option Failure) → QueryEndsRight all before p now quiet f → EndsRight all before (Ok (request.Query, p)) now quiet f
   told_query p f h = record {
     ended = h.ended;
     called = h.called;
-    query = λ q e. subst (λ (x : Prepared). ToldQuery all before x now quiet f) (ap (prepared_of p) e) h;
+    query = λ q e. subst (λ (x : Prepared). QueryEndsRight all before x now quiet f) (ap (prepared_of p) e) h;
     explained = λ n q e. absurd (subst IsQuery e tt);
   }
 
@@ -66,7 +66,7 @@ module _ (all : Contents) (before : List ℕ) (now : Option (List ℕ)) (quiet :
   done_writing failure.NoMemory w loud q = tt
   done_writing f w loud q = absurd w
 
-  told_of_explain : (n : ℕ) (p : Prepared) (f : Option Failure) → EndedExplain before p now f → IsCalledFor None f → (quiet → IsDone f) → Told all before (Ok (request.Explain n, p)) now quiet f
+  told_of_explain : (n : ℕ) (p : Prepared) (f : Option Failure) → EndedExplain before p now f → IsCalledFor None f → (quiet → IsDone f) → EndsRight all before (Ok (request.Explain n, p)) now quiet f
   told_of_explain n p f h called done = record {
     ended = h;
     called = called;
@@ -74,13 +74,13 @@ module _ (all : Contents) (before : List ℕ) (now : Option (List ℕ)) (quiet :
     explained = λ m q e. done;
   }
 
-  pub told_explain : {A : Type 0} (r : Result A Failure) (n : ℕ) (p : Prepared) → EndedExplain before p now (of_result r) → IfErr r IsWriting → (r ≡ Err failure.Write → ¬ quiet) → Told all before (Ok (request.Explain n, p)) now quiet (of_result r)
+  pub told_explain : {A : Type 0} (r : Result A Failure) (n : ℕ) (p : Prepared) → EndedExplain before p now (of_result r) → IfErr r IsWriting → (r ≡ Err failure.Write → ¬ quiet) → EndsRight all before (Ok (request.Explain n, p)) now quiet (of_result r)
   told_explain (Ok done) n p h w loud = told_of_explain n p None h refl (λ q. tt)
   told_explain (Err f) n p h w loud = told_of_explain n p (Some f) h (called_writing f w) (done_writing f w (λ e. loud (ap Err e)))
 
   -- ---- nothing was written
 
-  early_query : (p : Prepared) (f : Failure) → EndedQuery all before p now (Some f) → ((x : Option Failure) → IsCalledFor x (Some f)) → ((ps : List Path) (t : ℕ) (m : List ItemFault) → IsMet ps t m (Some f)) → (quiet → IsDone (Some f)) → ToldQuery all before p now quiet (Some f)
+  early_query : (p : Prepared) (f : Failure) → EndedQuery all before p now (Some f) → ((x : Option Failure) → IsCalledFor x (Some f)) → ((ps : List Path) (t : ℕ) (m : List ItemFault) → IsMet ps t m (Some f)) → (quiet → IsDone (Some f)) → QueryEndsRight all before p now quiet (Some f)
   early_query p f h called met done = record {
     ended = h;
     called = called _;
@@ -88,7 +88,7 @@ module _ (all : Contents) (before : List ℕ) (now : Option (List ℕ)) (quiet :
     complete = λ t tables at has none clean q. done q;
   }
 
-  early : (o : Result Ready Failure) (f : Failure) → now ≡ Some before → ((p : Prepared) → EndedQuery all before p now (Some f)) → ((p : Prepared) → EndedExplain before p now (Some f)) → ((x : Option Failure) → IsCalledFor x (Some f)) → ((ps : List Path) (t : ℕ) (m : List ItemFault) → IsMet ps t m (Some f)) → (quiet → IsDone (Some f)) → Told all before o now quiet (Some f)
+  early : (o : Result Ready Failure) (f : Failure) → now ≡ Some before → ((p : Prepared) → EndedQuery all before p now (Some f)) → ((p : Prepared) → EndedExplain before p now (Some f)) → ((x : Option Failure) → IsCalledFor x (Some f)) → ((ps : List Path) (t : ℕ) (m : List ItemFault) → IsMet ps t m (Some f)) → (quiet → IsDone (Some f)) → EndsRight all before o now quiet (Some f)
   early (Ok (request.Query, p)) f h ended plan called met done = told_query p (Some f) (early_query p f (ended p) called met done)
   early (Ok (request.Explain n, p)) f h ended plan called met done = told_of_explain n p (Some f) (plan p) (called None) done
   early (Err refusal) f h ended plan called met done = record {
@@ -99,14 +99,14 @@ module _ (all : Contents) (before : List ℕ) (now : Option (List ℕ)) (quiet :
   }
 
   -- a file failed, or there was no memory
-  told_read : (o : Result Ready Failure) → now ≡ Some before → ¬ quiet → Told all before o now quiet (Some failure.Read)
+  told_read : (o : Result Ready Failure) → now ≡ Some before → ¬ quiet → EndsRight all before o now quiet (Some failure.Read)
   told_read o h loud = early o failure.Read h (λ p. inl h) (λ p. h) (λ x. tt) (λ ps t m. tt) (λ q. absurd (loud q))
 
-  told_memory : (o : Result Ready Failure) → now ≡ Some before → Told all before o now quiet (Some failure.NoMemory)
+  told_memory : (o : Result Ready Failure) → now ≡ Some before → EndsRight all before o now quiet (Some failure.NoMemory)
   told_memory o h = early o failure.NoMemory h (λ p. inl h) (λ p. none_written before (text_of p) now h) (λ x. tt) (λ ps t m. tt) (λ q. tt)
 
   -- what is asked is refused
-  told_refusal : (f : Failure) → now ≡ Some before → IsCalledFor (Some f) (Some f) → Told all before (Err f) now quiet (Some f)
+  told_refusal : (f : Failure) → now ≡ Some before → IsCalledFor (Some f) (Some f) → EndsRight all before (Err f) now quiet (Some f)
   told_refusal f h called = record {
     ended = h;
     called = called;
@@ -114,14 +114,14 @@ module _ (all : Contents) (before : List ℕ) (now : Option (List ℕ)) (quiet :
     explained = λ n q e. absurd (subst IsAnswer (sym e) tt);
   }
 
-  pub told_words : (o : Result Ready Failure) → now ≡ Some before → o ≡ Err failure.Words → Told all before o now quiet (Some failure.Words)
-  told_words o h e = subst (λ (x : Result Ready Failure). Told all before x now quiet (Some failure.Words)) (sym e) (told_refusal failure.Words h refl)
+  pub told_words : (o : Result Ready Failure) → now ≡ Some before → o ≡ Err failure.Words → EndsRight all before o now quiet (Some failure.Words)
+  told_words o h e = subst (λ (x : Result Ready Failure). EndsRight all before x now quiet (Some failure.Words)) (sym e) (told_refusal failure.Words h refl)
 
   -- a script that isn't prepared
-  refused_by : (r : Request) (o : Result Prepared Failure) (f : Failure) → now ≡ Some before → IsCalledFor (Some f) (Some f) → o ≡ Err f → Told all before (followed o (ready r)) now quiet (Some f)
-  refused_by r o f h called e = subst (λ (x : Result Prepared Failure). Told all before (followed x (ready r)) now quiet (Some f)) (sym e) (told_refusal f h called)
+  refused_by : (r : Request) (o : Result Prepared Failure) (f : Failure) → now ≡ Some before → IsCalledFor (Some f) (Some f) → o ≡ Err f → EndsRight all before (followed o (ready r)) now quiet (Some f)
+  refused_by r o f h called e = subst (λ (x : Result Prepared Failure). EndsRight all before (followed x (ready r)) now quiet (Some f)) (sym e) (told_refusal f h called)
 
-  pub told_unprepared : (r : Request) (o : Result Prepared Failure) (f : Failure) → now ≡ Some before → Answers {A = Prepared} (Err f) o → IsPreparing f → (f ≡ failure.Read → ¬ quiet) → Told all before (followed o (ready r)) now quiet (Some f)
+  pub told_unprepared : (r : Request) (o : Result Prepared Failure) (f : Failure) → now ≡ Some before → Answers {A = Prepared} (Err f) o → IsPreparing f → (f ≡ failure.Read → ¬ quiet) → EndsRight all before (followed o (ready r)) now quiet (Some f)
   told_unprepared r o failure.Read h a is loud = told_read (followed o (ready r)) h (loud refl)
   told_unprepared r o failure.NoMemory h a is loud = told_memory (followed o (ready r)) h
   told_unprepared r o (failure.Lexer e) h a is loud = refused_by r o (failure.Lexer e) h refl a
@@ -132,20 +132,20 @@ module _ (all : Contents) (before : List ℕ) (now : Option (List ℕ)) (quiet :
   told_unprepared r o f h a is loud = absurd is
 
   -- a script that isn't read
-  unread : (r : Request) (path : Path) (q : Path) → now ≡ Some before → q ≡ path → content all path ≡ None → Told all before (by_text all r path (content all path)) now quiet (Some (failure.Missing q))
+  unread : (r : Request) (path : Path) (q : Path) → now ≡ Some before → q ≡ path → content all path ≡ None → EndsRight all before (by_text all r path (content all path)) now quiet (Some (failure.Missing q))
   unread r path q h e none =
-      subst (λ (o : Option (List ℕ)). Told all before (by_text all r path o) now quiet (Some (failure.Missing q))) (sym none)
-      (subst (λ (x : Path). Told all before (by_text all r path None) now quiet (Some (failure.Missing x))) (sym e) (told_refusal (failure.Missing path) h refl))
+      subst (λ (o : Option (List ℕ)). EndsRight all before (by_text all r path o) now quiet (Some (failure.Missing q))) (sym none)
+      (subst (λ (x : Path). EndsRight all before (by_text all r path None) now quiet (Some (failure.Missing x))) (sym e) (told_refusal (failure.Missing path) h refl))
 
   pub told_unread : (r : Request) (path : Path) (f : Failure) → now ≡ Some before → IsOpening f → ((q : Path) → f ≡ failure.Missing q → q ≡ path) → ((q : Path) → f ≡ failure.Missing q → content all path ≡ None) → (f ≡ failure.Read → ¬ quiet)
-      → Told all before (by_text all r path (content all path)) now quiet (Some f)
+      → EndsRight all before (by_text all r path (content all path)) now quiet (Some f)
   told_unread r path (failure.Missing q) h is same absent loud = unread r path q h (same q refl) (absent q refl)
   told_unread r path failure.Read h is same absent loud = told_read (by_text all r path (content all path)) h (loud refl)
   told_unread r path failure.NoMemory h is same absent loud = told_memory (by_text all r path (content all path)) h
   told_unread r path f h is same absent loud = absurd is
 
 -- what is told holds of a longer time too
-pub told_longer : (all : Contents) (before : List ℕ) (o : Result Ready Failure) (now : Option (List ℕ)) (quiet long : Type 0) (f : Option Failure) → (long → quiet) → Told all before o now quiet f → Told all before o now long f
+pub told_longer : (all : Contents) (before : List ℕ) (o : Result Ready Failure) (now : Option (List ℕ)) (quiet long : Type 0) (f : Option Failure) → (long → quiet) → EndsRight all before o now quiet f → EndsRight all before o now long f
 told_longer all before o now quiet long f shorter h = record {
   ended = h.ended;
   called = h.called;
@@ -158,25 +158,25 @@ told_longer all before o now quiet long f shorter h = record {
   explained = λ n p e q. h.explained n p e (shorter q);
 }
 
-pub told_query_at : (all : Contents) (before : List ℕ) (now : Option (List ℕ)) (quiet : Type 0) (r : Request) (p : Prepared) (f : Option Failure) → r ≡ request.Query → ToldQuery all before p now quiet f → Told all before (Ok (r, p)) now quiet f
-told_query_at all before now quiet r p f e h = subst (λ (x : Request). Told all before (Ok (x, p)) now quiet f) (sym e) (told_query all before now quiet p f h)
+pub told_query_at : (all : Contents) (before : List ℕ) (now : Option (List ℕ)) (quiet : Type 0) (r : Request) (p : Prepared) (f : Option Failure) → r ≡ request.Query → QueryEndsRight all before p now quiet f → EndsRight all before (Ok (r, p)) now quiet f
+told_query_at all before now quiet r p f e h = subst (λ (x : Request). EndsRight all before (Ok (x, p)) now quiet f) (sym e) (told_query all before now quiet p f h)
 
 -- what is told over a prepared script
 pub told_prepared : (all : Contents) (before : List ℕ) (now : Option (List ℕ)) (quiet long : Type 0) (r : Request) (o : Result Prepared Failure) (p : Prepared) (f : Option Failure) → o ≡ Ok p → (long → quiet)
-    → Told all before (Ok (r, p)) now quiet f → Told all before (followed o (ready r)) now long f
+    → EndsRight all before (Ok (r, p)) now quiet f → EndsRight all before (followed o (ready r)) now long f
 told_prepared all before now quiet long r o p f e shorter h =
-    subst (λ (x : Result Prepared Failure). Told all before (followed x (ready r)) now long f) (sym e) (told_longer all before (Ok (r, p)) now quiet long f shorter h)
+    subst (λ (x : Result Prepared Failure). EndsRight all before (followed x (ready r)) now long f) (sym e) (told_longer all before (Ok (r, p)) now quiet long f shorter h)
 
 -- what is told over the text of a script that was read
 pub told_of_text : (all : Contents) (before : List ℕ) (now : Option (List ℕ)) (quiet long : Type 0) (r : Request) (path text : List ℕ) (f : Option Failure) → content all path ≡ Some text → (long → quiet)
-    → Told all before (by_script all r text) now quiet f → Told all before (by_text all r path (content all path)) now long f
+    → EndsRight all before (by_script all r text) now quiet f → EndsRight all before (by_text all r path (content all path)) now long f
 told_of_text all before now quiet long r path text f e shorter h =
-    subst (λ (x : Option (List ℕ)). Told all before (by_text all r path x) now long f) (sym e) (told_longer all before (by_script all r text) now quiet long f shorter h)
+    subst (λ (x : Option (List ℕ)). EndsRight all before (by_text all r path x) now long f) (sym e) (told_longer all before (by_script all r text) now quiet long f shorter h)
 
 -- what is told of the request that the words make
-pub told_at : (all : Contents) (before : List ℕ) (now : Option (List ℕ)) (quiet : Type 0) (words : List (List ℕ)) (wanted : Wanted) (f : Option Failure) → request_of words ≡ Some wanted
-    → Told all before (by_words all (Some wanted)) now quiet f → Told all before (asked words all) now quiet f
-told_at all before now quiet words wanted f e h = subst (λ (x : Option Wanted). Told all before (by_words all x) now quiet f) (sym e) h
+pub told_at : (all : Contents) (before : List ℕ) (now : Option (List ℕ)) (quiet : Type 0) (words : List (List ℕ)) (wanted : Command) (f : Option Failure) → request_of words ≡ Some wanted
+    → EndsRight all before (by_words all (Some wanted)) now quiet f → EndsRight all before (asked words all) now quiet f
+told_at all before now quiet words wanted f e h = subst (λ (x : Option Command). EndsRight all before (by_words all x) now quiet f) (sym e) h
 
 -- a shorter time is as quiet
 pub quieter : (first files files_now sink sink_now : ℕ) → first ≤ files → Quiet first files_now sink sink_now → Quiet files files_now sink sink_now

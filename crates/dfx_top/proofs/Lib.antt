@@ -2,3 +2,4 @@ pub mod FaultSteps
 pub mod WordSteps
 pub mod QueryEnds
 pub mod CommandEnds
+pub mod Chains

@@ -16,9 +16,9 @@ use Rattle.scan_run.specs.Outcomes.{Asked as Run, Ran, Began, HasFiles, IsMet as
 use Rattle.scan_run.specs.declared.refused.RunRefused.{RunRefused}
 use Rattle.scan_run.specs.declared.refused.RunRefused.TheVariants as refused
 use Rattle.dfx_top.specs.Answers.{EndedQuery, run_of, Partly}
-use Rattle.dfx_top.specs.Asked.{is_built, scan_paths, not_run, by_count, by_missing, path_at}
+use Rattle.dfx_top.specs.Requests.{is_built, scan_paths, not_run, by_count, by_missing, path_at}
 use Rattle.dfx_top.specs.Outcomes.{FailureOf, IsCalledFor, IsMet, IsDone}
-use Rattle.dfx_top.specs.Told.{ToldQuery}
+use Rattle.dfx_top.specs.Endings.{QueryEndsRight}
 
 -- a query that is built, over few files, is refused only where one of them isn't there
 pub not_run-built : (all : Contents) (p : Prepared) (m : Option ℕ) → is_built p.query ≡ true → length (scan_paths p) ≤ 512 → missing all (scan_paths p) ≡ m → not_run all p ≡ by_missing (scan_paths p) m
@@ -128,9 +128,9 @@ own_few p paths same few = subst (λ (ps : List Path). length ps ≤ 512) same f
 
 module _ {A : Type 0} (all : Contents) (before : List ℕ) (p : Prepared) (now : Option (List ℕ)) (quiet : Type 0) (paths : List Path)
     (same : paths ≡ scan_paths p) (built : is_built p.query ≡ true) (s : Scanned) (is : scanned p.query.body ≡ Some s) (few : length (scan_paths p) ≤ 512) where
-  pub told_err : (e : RunRefused) (f : Failure) → Facts {A = A} all before p now quiet paths (Err e) → FailureOf paths e f → ToldQuery all before p now quiet (Some f)
+  pub told_err : (e : RunRefused) (f : Failure) → Facts {A = A} all before p now quiet paths (Err e) → FailureOf paths e f → QueryEndsRight all before p now quiet (Some f)
   told_err e f h of = told (own all before p now quiet paths (Err e) same h) (subst (λ (ps : List Path). FailureOf ps e f) same of) where
-    told : Facts {A = A} all before p now quiet (scan_paths p) (Err e) → FailureOf (scan_paths p) e f → ToldQuery all before p now quiet (Some f)
+    told : Facts {A = A} all before p now quiet (scan_paths p) (Err e) → FailureOf (scan_paths p) e f → QueryEndsRight all before p now quiet (Some f)
     told k o = record {
       ended = ended_err all before p s now is built few A e f (k.ran s is) (k.part s is) o;
       called = called_err all before p s now is built few A e f (k.ran s is) o;
@@ -138,9 +138,9 @@ module _ {A : Type 0} (all : Contents) (before : List ℕ) (p : Prepared) (now :
       complete = λ t tables at has none clean q. done_err A (scan_paths p) e f (k.complete t tables at has (none_missing all p built few none) clean q) o;
     }
 
-  pub told_ok : (a : A) → Facts {A = A} all before p now quiet paths (Ok a) → ToldQuery all before p now quiet None
+  pub told_ok : (a : A) → Facts {A = A} all before p now quiet paths (Ok a) → QueryEndsRight all before p now quiet None
   told_ok a h = told (own all before p now quiet paths (Ok a) same h) where
-    told : Facts {A = A} all before p now quiet (scan_paths p) (Ok a) → ToldQuery all before p now quiet None
+    told : Facts {A = A} all before p now quiet (scan_paths p) (Ok a) → QueryEndsRight all before p now quiet None
     told k = record {
       ended = (s, (is, k.ran s is));
       called = sym (not_run-built all p None built few (k.ran s is).there);
@@ -151,7 +151,7 @@ module _ {A : Type 0} (all : Contents) (before : List ℕ) (p : Prepared) (now :
 -- ---- queries that aren't run
 
 -- a query that is refused before it is run
-pub told_refused : (all : Contents) (before : List ℕ) (p : Prepared) (now : Option (List ℕ)) (quiet : Type 0) → now ≡ Some before → not_run all p ≡ Some failure.NotBuilt → ToldQuery all before p now quiet (Some failure.NotBuilt)
+pub told_refused : (all : Contents) (before : List ℕ) (p : Prepared) (now : Option (List ℕ)) (quiet : Type 0) → now ≡ Some before → not_run all p ≡ Some failure.NotBuilt → QueryEndsRight all before p now quiet (Some failure.NotBuilt)
 told_refused all before p now quiet e h = record {
   ended = e;
   called = sym h;
@@ -159,7 +159,7 @@ told_refused all before p now quiet e h = record {
   complete = λ t tables at has none clean q. (let z : Some failure.NotBuilt ≡ None = sym h ∙ none in cc);
 }
 
-pub told_many : (all : Contents) (before : List ℕ) (p : Prepared) (now : Option (List ℕ)) (quiet : Type 0) (n : ℕ) → now ≡ Some before → not_run all p ≡ Some (failure.TooManySources n) → ToldQuery all before p now quiet (Some (failure.TooManySources n))
+pub told_many : (all : Contents) (before : List ℕ) (p : Prepared) (now : Option (List ℕ)) (quiet : Type 0) (n : ℕ) → now ≡ Some before → not_run all p ≡ Some (failure.TooManySources n) → QueryEndsRight all before p now quiet (Some (failure.TooManySources n))
 told_many all before p now quiet n e h = record {
   ended = e;
   called = sym h;

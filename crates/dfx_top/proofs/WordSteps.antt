@@ -3,7 +3,7 @@ use Rattle.std.proofs.Common.{◌≡◌, refl, ℕ, suc, ◌+◌, ◌*◌, ◌-�
 use Rattle.std.specs.Prelude.{◌&&◌, nat_le}
 use Rattle.std.proofs.lemmas.Bool.{lt-leb}
 use Rattle.std.specs.Char.{is_ascii_digit}
-use Rattle.dfx_top.specs.Words.{number_after, in_range}
+use Rattle.dfx_top.specs.CommandWords.{number_after, in_range}
 
 above : (n : ℕ) → 64 < n → nat_le n 64 ≡ false
 above n h = lt-leb n 64 h

@@ -1,7 +1,7 @@
-pub mod Words
+pub mod CommandWords
 pub mod Causes
 pub mod Counts
-pub mod Asked
+pub mod Requests
 pub mod Answers
 pub mod Outcomes
-pub mod Told
+pub mod Endings

@@ -9,17 +9,16 @@ use Rattle.failure_text.specs.Failures.{status_of, failure_line}
 use Rattle.dfx_prepare.specs.Preparing.{Path}
 use Rattle.failure_text.specs.declared.failure.Failure.{Failure}
 use Rattle.failure_text.specs.declared.failure.Failure.TheVariants as failure
-use Rattle.scan_run.specs.Chains.{scanned, is_chain, AreSound}
+use Rattle.scan_run.specs.Chains.{is_chain}
 use Rattle.scan_run.specs.Sources.{fault_of}
 use Rattle.scan_run.specs.declared.refused.RunRefused.{RunRefused}
 use Rattle.scan_run.specs.declared.refused.RunRefused.TheVariants as refused
-use Rattle.dfx_top.specs.Asked.{path_at}
+use Rattle.dfx_top.specs.Requests.{path_at}
 use Rattle.dfx_top.specs.Causes.{cause_of}
 
 -- the parts of a query that is run
 pub record IsBuilt (q : Query) : Type 0 where
   pub chain : is_chain q.body ≡ true
-  pub sound : AreSound (scanned q.body)
   pub unordered : q.order ≡ []
   pub uncut : (q.offset ≡ 0) × (q.limit ≡ None)
 

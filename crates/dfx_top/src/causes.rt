@@ -2,7 +2,7 @@
 
 ghost use Rattle.std.specs.Prelude.{◌≡◌, IfOk};
 ghost use Rattle.run_journal.specs.declared.cause.Cause.TheVariants as cause;
-ghost use Rattle.dfx_top.specs.Asked.{path_at};
+ghost use Rattle.dfx_top.specs.Requests.{path_at};
 ghost use Rattle.dfx_top.specs.Causes as spec;
 ghost use Rattle.dfx_top.specs.Outcomes.{FailureOf, IsRunning};
 

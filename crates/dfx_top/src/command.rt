@@ -1,10 +1,11 @@
 //! The command.
 
-ghost use Rattle.std.specs.Prelude.{◌≡◌, ◌<◌, ◌≤◌, ◌⊎◌, ℕ, List, [], Ok, Err, Some, None, IfErr};
+ghost use Rattle.std.specs.Prelude.{◌≡◌, true, ◌<◌, ◌≤◌, ◌⊎◌, ℕ, List, [], Ok, Err, Some, None, IfErr};
 ghost use Rattle.dfx_outside.specs.Causes.{Rose};
 ghost use Rattle.dfx_outside.specs.Bytes.{EndsInFront};
 ghost use Rattle.dfx_outside.specs.Contents.{Contents};
 ghost use Rattle.logical_plan.specs.Body.{Tables, all_faults};
+ghost use Rattle.binder_kind_laws.specs.Scans.{has_sound_scans};
 ghost use Rattle.scan_run.specs.Chains.{Scanned, scanned};
 ghost use Rattle.scan_run.specs.Outcomes.{HasFiles};
 ghost use Rattle.failure_text.specs.declared.failure.Failure.{Failure as Refusal};
@@ -12,11 +13,11 @@ ghost use Rattle.failure_text.specs.declared.failure.Failure.TheVariants as fail
 ghost use Rattle.dfx_prepare.specs.declared.prepared.Prepared.{Prepared as APrepared};
 ghost use Rattle.dfx_prepare.specs.Preparing.{script_of};
 ghost use Rattle.dfx_top.specs.Answers.{Ended, run_of};
-ghost use Rattle.dfx_top.specs.Asked as spec;
+ghost use Rattle.dfx_top.specs.Requests as spec;
 ghost use Rattle.dfx_top.specs.Counts.{HasCauses};
 ghost use Rattle.dfx_top.specs.Outcomes.{of_result, status_for, IsCalledFor, IsMet, IsDone, IsRunning, IsTextRefused, IsLine};
-ghost use Rattle.dfx_top.specs.Told.{Quiet, Told};
-ghost use Rattle.dfx_top.specs.Words.{request_of as request_of_words};
+ghost use Rattle.dfx_top.specs.Endings.{Quiet, EndsRight};
+ghost use Rattle.dfx_top.specs.CommandWords.{request_of as request_of_words};
 ghost use Rattle.dfx_top.specs.declared.words.Request.TheVariants as wanted;
 
 use crate::explain::explain;
@@ -57,9 +58,10 @@ fn answer_prepared<F: Files, K: Sink>(
     files: &mut F,
     sink: &mut K,
 ) -> Result<(), Failure>
+    requires { has_sound_scans prepared.now.query.body ≡ true }
     ensures told { (all : Contents) (before : List ℕ)
         → F.told files.old ≡ Some all → K.told sink.old ≡ Some before
-        → Told all before (Ok (request, prepared.now)) (K.told sink.new)
+        → EndsRight all before (Ok (request, prepared.now)) (K.told sink.new)
         (Quiet (F.faults files.old) (F.faults files.new) (K.faults sink.old) (K.faults sink.new))
         (of_result result) }
     ensures causes { HasCauses (F.told files.old) (F.told files.new)
@@ -86,7 +88,7 @@ fn answer_text<F: Files, K: Sink>(
 
     ensures told { (all : Contents) (before : List ℕ)
         → F.told files.old ≡ Some all → K.told sink.old ≡ Some before
-        → Told all before (spec.by_script all request text.now) (K.told sink.new)
+        → EndsRight all before (spec.by_script all request text.now) (K.told sink.new)
         (Quiet (F.faults files.old) (F.faults files.new) (K.faults sink.old) (K.faults sink.new))
         (of_result result) }
     ensures causes { HasCauses (F.told files.old) (F.told files.new)
@@ -110,7 +112,7 @@ fn run<F: Files, K: Sink>(
 ) -> Result<(), Failure>
     ensures told { (all : Contents) (before : List ℕ)
         → F.told files.old ≡ Some all → K.told sink.old ≡ Some before
-        → Told all before (spec.asked words.now all) (K.told sink.new)
+        → EndsRight all before (spec.asked words.now all) (K.told sink.new)
         (Quiet (F.faults files.old) (F.faults files.new) (K.faults sink.old) (K.faults sink.new))
         (of_result result) }
     ensures causes { HasCauses (F.told files.old) (F.told files.new)

@@ -2,17 +2,19 @@
 
 ghost use Rattle.std.specs.Prelude.{◌≡◌, ◌≤◌, ℕ, List, true, length, Some, IfErr, IsTrue};
 ghost use Rattle.dfx_outside.specs.Contents.{Contents};
-ghost use Rattle.dfx_top.specs.Asked as spec;
+ghost use Rattle.scan_run.specs.Chains.{scanned, AreSound};
+ghost use Rattle.binder_kind_laws.specs.Scans.{has_sound_scans};
+ghost use Rattle.dfx_top.specs.Requests as spec;
 ghost use Rattle.dfx_top.specs.Counts.{HasCauses};
 ghost use Rattle.dfx_top.specs.Outcomes.{IsBuilt, IsRunning, of_result};
-ghost use Rattle.dfx_top.specs.Told.{Quiet, ToldQuery};
+ghost use Rattle.dfx_top.specs.Endings.{Quiet, QueryEndsRight};
 
 use crate::causes::run_failure;
 use dfx_outside::{Files, Sink};
 use dfx_prepare::{Failure, Prepared};
 use dfx_value::Text;
 use logical_plan::Query;
-use scan_run::{chain_scan, has_sound_kinds, is_chain, run_chain};
+use scan_run::{chain_scan, is_chain, run_chain};
 use std::alloc::Global;
 
 /// The greatest number of files that a query reads.
@@ -24,7 +26,6 @@ fn is_built(query: &Query) -> bool
     ensures built { IsTrue result → IsBuilt query.now }
 {
     is_chain(&query.body)
-        && has_sound_kinds(&query.body)
         && query.order.as_slice().is_empty()
         && query.offset == 0
         && query.limit.is_none()
@@ -53,12 +54,13 @@ fn run_built<F: Files, K: Sink>(
 ) -> Result<(), Failure>
     requires built { spec.is_built prepared.now.query ≡ true }
     requires parts { IsBuilt prepared.now.query }
+    requires sound { AreSound (scanned prepared.now.query.body) }
     requires paths { paths.now ≡ spec.scan_paths prepared.now }
     requires few { length paths.now ≤ 512 }
 
     ensures told { (all : Contents) (before : List ℕ)
         → F.told files.old ≡ Some all → K.told sink.old ≡ Some before
-        → ToldQuery all before prepared.now (K.told sink.new)
+        → QueryEndsRight all before prepared.now (K.told sink.new)
         (Quiet (F.faults files.old) (F.faults files.new) (K.faults sink.old) (K.faults sink.new))
         (of_result result) }
     ensures causes { HasCauses (F.told files.old) (F.told files.new)
@@ -79,9 +81,10 @@ pub fn run_query<F: Files, K: Sink>(
     files: &mut F,
     sink: &mut K,
 ) -> Result<(), Failure>
+    requires { has_sound_scans prepared.now.query.body ≡ true }
     ensures told { (all : Contents) (before : List ℕ)
         → F.told files.old ≡ Some all → K.told sink.old ≡ Some before
-        → ToldQuery all before prepared.now (K.told sink.new)
+        → QueryEndsRight all before prepared.now (K.told sink.new)
         (Quiet (F.faults files.old) (F.faults files.new) (K.faults sink.old) (K.faults sink.new))
         (of_result result) }
     ensures causes { HasCauses (F.told files.old) (F.told files.new)

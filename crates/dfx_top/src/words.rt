@@ -1,8 +1,8 @@
 //! The words of a command.
 
 ghost use Rattle.std.specs.Prelude.{◌≡◌, ◌<◌, IfSome, option_map};
-ghost use Rattle.dfx_top.specs.Asked.{partitions_for};
-ghost use Rattle.dfx_top.specs.Words as spec;
+ghost use Rattle.dfx_top.specs.Requests.{partitions_for};
+ghost use Rattle.dfx_top.specs.CommandWords as spec;
 
 use dfx_value::Text;
 

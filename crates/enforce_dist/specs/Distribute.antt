@@ -1,5 +1,5 @@
 -- Meaning: the exchanges that a plan's needs ask for.
-use Rattle.std.specs.Prelude.{ℕ, ◌==◌, Bool, true, false, ◌&&◌, nat_lt, List, [], ◌∷◌, map, if◌then◌else◌}
+use Rattle.std.specs.Prelude.{ℕ, ◌==◌, Bool, true, false, ◌&&◌, nat_lt, List, [], ◌∷◌, if◌then◌else◌}
 use Rattle.dfx_value.specs.declared.rows.SortKey.{SortKey}
 use Rattle.plan_props.specs.declared.properties.Partitioning.TheVariants as parting
 use Rattle.plan_props.specs.declared.properties.Distribution.{Distribution}
@@ -8,7 +8,8 @@ use Rattle.plan_props.specs.Satisfies.{satisfies_distribution}
 use Rattle.physical_plan.specs.declared.plan.Plan.{Plan}
 use Rattle.physical_plan.specs.declared.plan.Plan.TheVariants as plan
 use Rattle.physical_plan.specs.declared.plan.Plan.TheOpen.{Plan-F}
-use Rattle.physical_plan.specs.declared.plan.Plan.TheFolds.{fold-Plan}
+use Rattle.physical_plan.specs.declared.plan.Plan.TheFolds.{fold-Plan, map-Plan}
+use Rattle.physical_plan.specs.Rebuilt.{rebuilt}
 use Rattle.physical_plan.specs.Properties.{props, partitions, left_keys, right_keys}
 
 -- a plan, from whether a PartialGroup, HashJoin or Sort stands above it
@@ -37,19 +38,23 @@ join_input keys n p = hashed (need.JoinHash keys n) keys n p
 abbrev pub spread : ℕ → ℕ → Bool → Plan → Plan
 spread n partitions above p = if above && nat_lt partitions n then plan.Repartition p (parting.RoundRobin n) else p
 
+-- whether scans below a node are spread, from whether those below its place are
+abbrev pub spreads : {A : Type 0} → Plan-F A → Bool → Bool
+spreads (Plan-F.PartialGroup input keys calls) above = true
+spreads (Plan-F.HashJoin kind left right keys rest) above = true
+spreads (Plan-F.Sort input keys) above = true
+spreads _ above = above
+
+-- a node over inputs that have their exchanges
+abbrev pub exchange : ℕ → Bool → Plan-F Plan → Plan
+exchange n above (Plan-F.Scan table kinds files partitions) = spread n partitions above (plan.Scan table kinds files partitions)
+exchange n above (Plan-F.FinalGroup input keys calls) = plan.FinalGroup (grouped_input keys n input) keys calls
+exchange n above (Plan-F.HashJoin kind left right keys rest) = plan.HashJoin kind (join_input (left_keys keys) n left) (join_input (right_keys keys) n right) keys rest
+exchange n above (Plan-F.Limit input skip fetch) = plan.Limit (gathered input) skip fetch
+exchange n above z = rebuilt z
+
 abbrev pub distribute : ℕ → Plan-F Below → Below
-distribute n (Plan-F.Scan table kinds files partitions) above = spread n partitions above (plan.Scan table kinds files partitions)
-distribute n (Plan-F.Filter input test) above = plan.Filter (input above) test
-distribute n (Plan-F.Project input items) above = plan.Project (input above) items
-distribute n (Plan-F.PartialGroup input keys calls) above = plan.PartialGroup (input true) keys calls
-distribute n (Plan-F.FinalGroup input keys calls) above = plan.FinalGroup (grouped_input keys n (input above)) keys calls
-distribute n (Plan-F.HashJoin kind left right keys rest) above = plan.HashJoin kind (join_input (left_keys keys) n (left true)) (join_input (right_keys keys) n (right true)) keys rest
-distribute n (Plan-F.Sort input keys) above = plan.Sort (input true) keys
-distribute n (Plan-F.Merge input keys) above = plan.Merge (input above) keys
-distribute n (Plan-F.Coalesce input) above = plan.Coalesce (input above)
-distribute n (Plan-F.Repartition input to) above = plan.Repartition (input above) to
-distribute n (Plan-F.UnionAll inputs) above = plan.UnionAll (map (λ (f : Below). f above) inputs)
-distribute n (Plan-F.Limit input skip fetch) above = plan.Limit (gathered (input above)) skip fetch
+distribute n z above = exchange n above (map-Plan Below Plan (λ f. f (spreads z above)) z)
 
 unfoldable pub distributed : ℕ → Plan → Below
 distributed n = fold-Plan Below (distribute n)

@@ -19,8 +19,8 @@ fn is_sorted(alloc: Global, plan: &Plan, keys: &Items<SortKey>) -> Result<bool, 
     satisfies_order(alloc, &props, keys.as_slice())
 }
 
-fn sorted(alloc: Global, keys: Items<SortKey>, plan: Plan) -> Result<Plan, NoMemory>
-    ensures { IfOk result (λ p. p ≡ spec.sorted keys plan) }
+fn with_sort(alloc: Global, keys: Items<SortKey>, plan: Plan) -> Result<Plan, NoMemory>
+    ensures { IfOk result (λ p. p ≡ spec.with_sort keys plan) }
 {
     if is_sorted(alloc, &plan, &keys)? {
         return Ok(plan);
@@ -33,10 +33,10 @@ fn sorted(alloc: Global, keys: Items<SortKey>, plan: Plan) -> Result<Plan, NoMem
 
 /// A merge, with a sort below where one is needed.
 fn merged(alloc: Global, keys: Items<SortKey>, plan: Plan) -> Result<Plan, NoMemory>
-    ensures { IfOk result (λ p. p ≡ plans.Merge (spec.sorted keys plan) keys) }
+    ensures { IfOk result (λ p. p ≡ plans.Merge (spec.with_sort keys plan) keys) }
 {
     let copy = Items::from_slice(alloc, keys.as_slice())?;
-    let input = sorted(alloc, copy, plan)?;
+    let input = with_sort(alloc, copy, plan)?;
     Ok(Plan::Merge {
         input: Boxed::new(alloc, input)?,
         keys,
@@ -140,7 +140,7 @@ pub fn enforce_sorting(alloc: Global, plan: Plan) -> Result<Plan, NoMemory>
         }
         Plan::Sort { input, keys } => {
             let input = enforce_sorting(alloc, input.into_inner())?;
-            sorted(alloc, keys, input)
+            with_sort(alloc, keys, input)
         }
         Plan::Merge { input, keys } => {
             let input = enforce_sorting(alloc, input.into_inner())?;

@@ -2,7 +2,7 @@
 ghost use Rattle.std.specs.Prelude.{◌≡◌, ◌≤◌, ◌<◌, length, drop, option_map, IfOk, Some};
 ghost use Rattle.sql_lexer.specs.Parts.{IsToken};
 ghost use Rattle.sql_grammar.specs.Class as spec;
-ghost use Rattle.sql_grammar.specs.Words.{seen};
+ghost use Rattle.sql_grammar.specs.TokenClasses.{seen};
 ghost use Rattle.expr_parser.specs.Cursors.{Reads, Stops, first_text};
 ghost use Rattle.sql_grammar.specs.Parsed.{place_or};
 ghost use Rattle.sql_grammar.specs.Reading.{all_of_ahead};

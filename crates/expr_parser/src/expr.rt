@@ -17,9 +17,9 @@ use std::alloc::Global;
 const OPERATORS: usize = 1024;
 
 /// An expression that is no part of another: its operators are counted by themselves.
-#[tactic(auto, unfolding(sql_grammar::specs::Reading::whole))]
-pub fn whole(alloc: Global, cursor: &mut Cursor<'_>, depth: usize) -> Result<ExprAst, Halt>
-    ensures { Parses (at_depth spec.whole depth) cursor.old result cursor.new }
+#[tactic(auto, unfolding(sql_grammar::specs::Reading::whole_expr))]
+pub fn whole_expr(alloc: Global, cursor: &mut Cursor<'_>, depth: usize) -> Result<ExprAst, Halt>
+    ensures { Parses (at_depth spec.whole_expr depth) cursor.old result cursor.new }
 {
     let counted = cursor.counted();
     cursor.count_from(0);

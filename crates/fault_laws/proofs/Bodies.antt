@@ -14,7 +14,7 @@ use Rattle.logical_plan.specs.Items.{Item, rows, faults, concat, filter_items, p
 use Rattle.logical_plan.specs.Joins.{joined}
 use Rattle.logical_plan.specs.Groups.{aggregated}
 use Rattle.logical_plan.specs.Body as body
-use Rattle.logical_plan.specs.Body.{Tables, Part, whole, scan, all_faults}
+use Rattle.logical_plan.specs.Body.{Tables, Part, meant_part, scan, all_faults}
 use Rattle.physical_plan.specs.declared.plan.Plan.{Plan}
 use Rattle.physical_plan.specs.declared.plan.Plan.TheVariants as plan
 use Rattle.physical_plan.specs.declared.plan.Plan.TheVariants.{rolls-Scan, rolls-Filter, rolls-Project, rolls-PartialGroup, rolls-FinalGroup, rolls-HashJoin, rolls-Sort, rolls-UnionAll, rolls-Limit}
@@ -109,23 +109,23 @@ module _ (tables : Tables) where
 
 module _ (phases : Phases) (laws : LawsOfParts phases) (tables : Tables) (files : List ℕ) (n : ℕ) where
   abbrev Body : Logical → Type 0
-  Body q = has_distincts tables q ≡ true → met_of tables (built_of files n q).plan ≡ (whole tables q).met
+  Body q = has_distincts tables q ≡ true → met_of tables (built_of files n q).plan ≡ (meant_part tables q).met
 
   abbrev Bodied : Type 0
   Bodied = (q : Logical) × Body q
 
   part_level : (z : Logical-F Logical)
       → (distinct_node tables (map-Logical Logical (Logical × Bool) (λ q. (q, has_distincts tables q)) z) ≡ true
-      → met_of tables (node files n (map-Logical Logical Built (built_of files n) z)).plan ≡ (body.node tables (map-Logical Logical Part (whole tables) z)).met)
+      → met_of tables (node files n (map-Logical Logical Built (built_of files n) z)).plan ≡ (body.node tables (map-Logical Logical Part (meant_part tables) z)).met)
       → Body (roll-Logical z)
-  unfolding has_distincts built_of whole
+  unfolding has_distincts built_of meant_part
   part_level z h =
       let a = para-roll-Logical Bool (distinct_node tables) z in
       let b = fold-roll-Logical Built (node files n) z in
       let c = fold-roll-Logical Part (body.node tables) z in
       rw (a, b, c) h
 
-  means_part : (q : Logical) → has_distincts tables q ≡ true → meaning_of tables (built_of files n q).plan ≡ meaning (whole tables q).kinds (whole tables q).items
+  means_part : (q : Logical) → has_distincts tables q ≡ true → meaning_of tables (built_of files n q).plan ≡ meaning (meant_part tables q).kinds (meant_part tables q).items
   means_part q e = (body_parts phases laws tables files n q e).meaning
 
   grouped : (p : Plan) (keys : List ℕ) (calls : List AggCall) (w : Part) → meaning_of tables p ≡ meaning w.kinds w.items → met_of tables p ≡ w.met
@@ -146,41 +146,41 @@ module _ (phases : Phases) (laws : LawsOfParts phases) (tables : Tables) (files 
   abbrev plans_of : List Bodied → List Plan
   plans_of qs = map (λ (b : Built). b.plan) (map (built_of files n) (bodies qs))
 
-  all_items : (qs : List Bodied) → all_true (map (λ (q : Logical × Bool). q.1) (tests (bodies qs))) ≡ true → items_of tables (plans_of qs) ≡ map (λ (p : Part). p.items) (map (whole tables) (bodies qs))
+  all_items : (qs : List Bodied) → all_true (map (λ (q : Logical × Bool). q.1) (tests (bodies qs))) ≡ true → items_of tables (plans_of qs) ≡ map (λ (p : Part). p.items) (map (meant_part tables) (bodies qs))
   all_items [] e = refl
   all_items (q ∷ qs) e =
       let b = both_true (has_distincts tables q.0) (all_true (map (λ (q : Logical × Bool). q.1) (tests (bodies qs)))) e in
-      ap (λ (m : Meaning). m.items ∷ items_of tables (plans_of qs)) (means_part q.0 b.0) ∙ ap (λ is. (whole tables q.0).items ∷ is) (all_items qs b.1)
+      ap (λ (m : Meaning). m.items ∷ items_of tables (plans_of qs)) (means_part q.0 b.0) ∙ ap (λ is. (meant_part tables q.0).items ∷ is) (all_items qs b.1)
 
-  all_mets : (qs : List Bodied) → all_true (map (λ (q : Logical × Bool). q.1) (tests (bodies qs))) ≡ true → mets_of tables (plans_of qs) ≡ map (λ (p : Part). p.met) (map (whole tables) (bodies qs))
+  all_mets : (qs : List Bodied) → all_true (map (λ (q : Logical × Bool). q.1) (tests (bodies qs))) ≡ true → mets_of tables (plans_of qs) ≡ map (λ (p : Part). p.met) (map (meant_part tables) (bodies qs))
   all_mets [] e = refl
   all_mets (q ∷ qs) e =
       let b = both_true (has_distincts tables q.0) (all_true (map (λ (q : Logical × Bool). q.1) (tests (bodies qs)))) e in
-      ap (λ m. m ∷ mets_of tables (plans_of qs)) (q.1 b.0) ∙ ap (λ ms. (whole tables q.0).met ∷ ms) (all_mets qs b.1)
+      ap (λ m. m ∷ mets_of tables (plans_of qs)) (q.1 b.0) ∙ ap (λ ms. (meant_part tables q.0).met ∷ ms) (all_mets qs b.1)
 
   part_step : (y : Logical-F Bodied) → Body (roll-Logical (map-Logical Bodied Logical (λ k. k.0) y))
   part_step (Logical-F.Scan table kinds) = part_level (Logical-F.Scan table kinds) (λ e.
       (let k = get_or files table 0 in rolled tables (plan.Scan table kinds k (min (max k 1) n)) (Plan-F.Scan table kinds k (min (max k 1) n)) (rolls-Scan table kinds k (min (max k 1) n))))
-  part_step (Logical-F.Filter x test) = part_level (Logical-F.Filter x.0 test) (λ e. (let b = (built_of files n x.0).plan in let w = whole tables x.0 in
+  part_step (Logical-F.Filter x test) = part_level (Logical-F.Filter x.0 test) (λ e. (let b = (built_of files n x.0).plan in let w = meant_part tables x.0 in
       rolled tables (plan.Filter b test) (Plan-F.Filter b test) (rolls-Filter b test)
       ∙ ap (λ (m : Meaning). faults (filter_items test m.items) ++ met_of tables b) (means_part x.0 e) ∙ ap (λ ms. faults (filter_items test w.items) ++ ms) (x.1 e)))
-  part_step (Logical-F.Project x items) = part_level (Logical-F.Project x.0 items) (λ e. (let b = (built_of files n x.0).plan in let w = whole tables x.0 in
+  part_step (Logical-F.Project x items) = part_level (Logical-F.Project x.0 items) (λ e. (let b = (built_of files n x.0).plan in let w = meant_part tables x.0 in
       rolled tables (plan.Project b items) (Plan-F.Project b items) (rolls-Project b items)
       ∙ ap (λ (m : Meaning). faults (project_items items m.items) ++ met_of tables b) (means_part x.0 e) ∙ ap (λ ms. faults (project_items items w.items) ++ ms) (x.1 e)))
   part_step (Logical-F.Join kind x y keys rest) = part_level (Logical-F.Join kind x.0 y.0 keys rest) (λ e. (
       let t = both_true (has_distincts tables x.0) (has_distincts tables y.0) e in
       let b = (built_of files n x.0).plan in
       let c = (built_of files n y.0).plan in
-      let v = whole tables x.0 in
-      let w = whole tables y.0 in
+      let v = meant_part tables x.0 in
+      let w = meant_part tables y.0 in
       rolled tables (plan.HashJoin kind b c keys rest) (Plan-F.HashJoin kind b c keys rest) (rolls-HashJoin kind b c keys rest)
       ∙ ap (λ (m : Meaning). faults (joined kind (length m.kinds) (length (meaning_of tables c).kinds) keys rest m.items (meant tables c)) ++ (met_of tables b ++ met_of tables c)) (means_part x.0 t.0)
       ∙ ap (λ (m : Meaning). faults (joined kind (length v.kinds) (length m.kinds) keys rest v.items m.items) ++ (met_of tables b ++ met_of tables c)) (means_part y.0 t.1)
       ∙ ap (λ ms. faults (joined kind (length v.kinds) (length w.kinds) keys rest v.items w.items) ++ (ms ++ met_of tables c)) (x.1 t.0)
       ∙ ap (λ ms. faults (joined kind (length v.kinds) (length w.kinds) keys rest v.items w.items) ++ (v.met ++ ms)) (y.1 t.1)))
-  part_step (Logical-F.Aggregate x keys calls) = part_level (Logical-F.Aggregate x.0 keys calls) (λ e. grouped (built_of files n x.0).plan keys calls (whole tables x.0) (means_part x.0 e) (x.1 e))
+  part_step (Logical-F.Aggregate x keys calls) = part_level (Logical-F.Aggregate x.0 keys calls) (λ e. grouped (built_of files n x.0).plan keys calls (meant_part tables x.0) (means_part x.0 e) (x.1 e))
   part_step (Logical-F.Distinct x) = part_level (Logical-F.Distinct x.0) (λ e. (
-      let w = whole tables x.0 in
+      let w = meant_part tables x.0 in
       let t = both_true (has_distincts tables x.0) (nat_lt 0 (length w.kinds) && all_are w.kinds (rows w.items)) e in
       let u = both_true (nat_lt 0 (length w.kinds)) (all_are w.kinds (rows w.items)) t.1 in
       let b = built_of files n x.0 in
@@ -189,7 +189,7 @@ module _ (phases : Phases) (laws : LawsOfParts phases) (tables : Tables) (files 
       ∙ ap (λ is. faults is ++ w.met) (sym (laws.distincts w.kinds w.items (all_pass w.kinds (rows w.items) u.1) (above_zero (length w.kinds) u.0)))))
   part_step (Logical-F.UnionAll xs) = part_level (Logical-F.UnionAll (bodies xs)) (λ e. (let bs = plans_of xs in
       rolled tables (plan.UnionAll bs) (Plan-F.UnionAll bs) (rolls-UnionAll bs)
-      ∙ ap (λ is. faults (concat is) ++ concat (mets_of tables bs)) (all_items xs e) ∙ ap (λ ms. faults (concat (map (λ (p : Part). p.items) (map (whole tables) (bodies xs)))) ++ concat ms) (all_mets xs e)))
+      ∙ ap (λ is. faults (concat is) ++ concat (mets_of tables bs)) (all_items xs e) ∙ ap (λ ms. faults (concat (map (λ (p : Part). p.items) (map (meant_part tables) (bodies xs)))) ++ concat ms) (all_mets xs e)))
 
   body_meets : (q : Logical) → has_distincts tables q ≡ true → met_of tables (body_plan files n q) ≡ all_faults tables q
   body_meets = ind-Logical Body (λ x y is. subst (λ z. Body (roll-Logical z)) is (part_step y))

@@ -37,7 +37,7 @@ use Rattle.join_laws.proofs.Core.{one_join}
 use Rattle.join_laws.proofs.Parts.{parts_faults}
 use Rattle.join_laws.proofs.Items.{fails, pass_weigh, pass_from, faults_weigh}
 use Rattle.join_laws.proofs.Items as items
-use Rattle.answer_laws.specs.Gives.{Answers, AllAnswer, AllJoin}
+use Rattle.answer_laws.specs.Gives.{Yields, AllYield, AllJoin}
 use Rattle.answer_laws.specs.Kept.{AllHold, IsKept}
 use Rattle.answer_laws.specs.Meant.{Grouping, answered, meaning_of, meant, TellsBy, files_of, is_whole, all_told, same_numbers, same_calls, finishes, told_node, is_told}
 use Rattle.answer_laws.specs.Parted.{part}
@@ -144,7 +144,7 @@ module _ (hash : Hashing) (f : Doing) (tables : Tables) (many : ℕ) (engine : I
       ∙ ap (λ xs. sum_by (bad test) (concat xs)) (listed (f.items table) (files_of tables table) (λ i. engine.answering.items table i)) in
       omega arith))
 
-  filters : (q : Plan) (t : Expr) (xs ys : List (List Item)) → Tells_of q xs → Meets q xs → AllAnswer (f.operator (Plan-F.Filter q t) 1) xs ys → Meets (roll-Plan (Plan-F.Filter q t)) ys
+  filters : (q : Plan) (t : Expr) (xs ys : List (List Item)) → Tells_of q xs → Meets q xs → AllYield (f.operator (Plan-F.Filter q t) 1) xs ys → Meets (roll-Plan (Plan-F.Filter q t)) ys
   filters q t xs ys h i a = level (Plan-F.Filter q t) ys (λ e m. (
       let w = bad test in
       let means = meaning_of tables q in
@@ -157,7 +157,7 @@ module _ (hash : Hashing) (f : Doing) (tables : Tables) (many : ℕ) (engine : I
       weighed w v (f.operator (Plan-F.Filter q t) 1) (λ c t2 ins s r. ap (sum_by w) (engine.answering.filter q t c t2 ins s r) ∙ flat_weighs w (filtered t) (ins 0)) xs ys a
       ∙ none_of test v (λ g. (let o : 0 + fails test g ≡ fails test g = omega arith in o)) (concat xs) means.items (told_whole the_phases means.groups means.items xs b.1 (h.1 b.0)) n k))
 
-  projects : (q : Plan) (is : List Expr) (xs ys : List (List Item)) → Tells_of q xs → Meets q xs → AllAnswer (f.operator (Plan-F.Project q is) 1) xs ys → Meets (roll-Plan (Plan-F.Project q is)) ys
+  projects : (q : Plan) (is : List Expr) (xs ys : List (List Item)) → Tells_of q xs → Meets q xs → AllYield (f.operator (Plan-F.Project q is) 1) xs ys → Meets (roll-Plan (Plan-F.Project q is)) ys
   projects q is xs ys h i a = level (Plan-F.Project q is) ys (λ e m. (
       let w = bad test in
       let means = meaning_of tables q in
@@ -170,7 +170,7 @@ module _ (hash : Hashing) (f : Doing) (tables : Tables) (many : ℕ) (engine : I
       weighed w v (f.operator (Plan-F.Project q is) 1) (λ c t2 ins s r. ap (sum_by w) (engine.answering.project q is c t2 ins s r) ∙ map_weighs w (projected is) (ins 0)) xs ys a
       ∙ none_of test v (λ g. refl) (concat xs) means.items (told_whole the_phases means.groups means.items xs b.1 (h.1 b.0)) n k))
 
-  partials : (q : Plan) (keys : List ℕ) (calls : List AggCall) (xs ys : List (List Item)) → Meets q xs → AllAnswer (f.operator (Plan-F.PartialGroup q keys calls) 1) xs ys → Meets (roll-Plan (Plan-F.PartialGroup q keys calls)) ys
+  partials : (q : Plan) (keys : List ℕ) (calls : List AggCall) (xs ys : List (List Item)) → Meets q xs → AllYield (f.operator (Plan-F.PartialGroup q keys calls) 1) xs ys → Meets (roll-Plan (Plan-F.PartialGroup q keys calls)) ys
   partials q keys calls xs ys i a = level (Plan-F.PartialGroup q keys calls) ys (λ e m. (
       let means = meaning_of tables q in
       let b = both_true (is_told tables (on_properties tables many) q) (is_whole means) e in
@@ -179,14 +179,14 @@ module _ (hash : Hashing) (f : Doing) (tables : Tables) (many : ℕ) (engine : I
       let c = faults-phase keys calls means.kinds s.0 in
       s.2 (bad test) ∙ sym (bads test (flat_map (phase keys calls means.kinds) s.0)) ∙ ap (badly test) c ∙ bads test (concat s.0) ∙ ap (sum_by (bad test)) s.1 ∙ i b.0 m))
 
-  sorts : (q : Plan) (keys : List SortKey) (xs ys : List (List Item)) → Meets q xs → AllAnswer (f.operator (Plan-F.Sort q keys) 1) xs ys → Meets (roll-Plan (Plan-F.Sort q keys)) ys
+  sorts : (q : Plan) (keys : List SortKey) (xs ys : List (List Item)) → Meets q xs → AllYield (f.operator (Plan-F.Sort q keys) 1) xs ys → Meets (roll-Plan (Plan-F.Sort q keys)) ys
   sorts q keys xs ys i a = level (Plan-F.Sort q keys) ys (λ e m.
       weighed (bad test) (bad test) (f.operator (Plan-F.Sort q keys) 1) (λ c t ins s r. engine.answering.sort q keys c t ins s r (bad test)) xs ys a ∙ i e m)
 
   single : (y : List Item) → sum_by (bad test) (concat (y ∷ [])) ≡ sum_by (bad test) y
   single y = ap (sum_by (bad test)) (append-nil y)
 
-  merges : (q : Plan) (keys : List SortKey) (xs : List (List Item)) (y : List Item) → Meets q xs → Answers (f.operator (Plan-F.Merge q keys) (length xs)) xs y → Meets (roll-Plan (Plan-F.Merge q keys)) (y ∷ [])
+  merges : (q : Plan) (keys : List SortKey) (xs : List (List Item)) (y : List Item) → Meets q xs → Yields (f.operator (Plan-F.Merge q keys) (length xs)) xs y → Meets (roll-Plan (Plan-F.Merge q keys)) (y ∷ [])
   merges q keys xs y i a = level (Plan-F.Merge q keys) (y ∷ []) (λ e m.
       single y ∙ ap (sum_by (bad test)) a.gives ∙ engine.answering.merge q keys (length xs) a.consumer a.told a.taken a.split a.reads (bad test) ∙ together_all xs a.taken a.are (bad test) ∙ i e m)
 
@@ -263,7 +263,7 @@ module _ (hash : Hashing) (f : Doing) (tables : Tables) (many : ℕ) (engine : I
 
   -- ------------------------------------------------------------ groups
 
-  finals : (q : Plan) (keys : List ℕ) (calls : List AggCall) (xs ys : List (List Item)) → Tells_of q xs → Meets q xs → AllAnswer (f.operator (Plan-F.FinalGroup q keys calls) 1) xs ys → Meets (roll-Plan (Plan-F.FinalGroup q keys calls)) ys
+  finals : (q : Plan) (keys : List ℕ) (calls : List AggCall) (xs ys : List (List Item)) → Tells_of q xs → Meets q xs → AllYield (f.operator (Plan-F.FinalGroup q keys calls) 1) xs ys → Meets (roll-Plan (Plan-F.FinalGroup q keys calls)) ys
   finals q keys calls xs ys h i a = level (Plan-F.FinalGroup q keys calls) ys (λ e m. (
       let means = meaning_of tables q in
       let t = finishes means.groups keys calls (rows means.items) in

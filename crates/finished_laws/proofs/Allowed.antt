@@ -21,7 +21,7 @@ use Rattle.plan_shape.proofs.Lawful.{is_shape}
 use Rattle.logical_plan.specs.declared.query.Query.{Query}
 use Rattle.logical_plan.specs.Items.{of_rows}
 use Rattle.logical_plan.specs.Allowed.{Allows, Allowed}
-use Rattle.logical_plan.specs.Body.{Tables, whole}
+use Rattle.logical_plan.specs.Body.{Tables, meant_part}
 use Rattle.tree_laws.specs.Runs.{State, the_task}
 use Rattle.content_laws.specs.Bags.{Alike}
 use Rattle.content_laws.proofs.Flows.{exist}
@@ -144,7 +144,7 @@ module _ (h : Hashing) (f : Doing) (tables : Tables) (n : ℕ) (phases : Phases)
       let b = subst (Alike (of_rows out)) (ap (λ (x : Meaning). x.items) m) a in
       let c = subst (IsSorted (row_cmp q.order)) (rows_back out) (one_sorts h f tables n phases engine p (of_rows out) q.order sound fin.root_order k) in
       let z = no_limit_is q.limit q.offset none in
-      subst (λ (k : ℕ). Allows q.order k q.limit (whole tables q.body).items out) (sym z.1) (subst (λ (l : Option ℕ). Allows q.order 0 l (whole tables q.body).items out) (sym z.0) (all_given q.order out (whole tables q.body).items b c))
+      subst (λ (k : ℕ). Allows q.order k q.limit (meant_part tables q.body).items out) (sym z.1) (subst (λ (l : Option ℕ). Allows q.order 0 l (meant_part tables q.body).items out) (sym z.0) (all_given q.order out (meant_part tables q.body).items b c))
 
   some_rows : (p : Plan) → IsFinished (build q files n) q.order n p → IsLimited phases engine.lists tables q distincts files known n more p → (s : State) → IsFinishedRun f p s → Allowed q tables (the_task s.tasks 0).output
   some_rows p fin at s run =
@@ -159,7 +159,7 @@ module _ (h : Hashing) (f : Doing) (tables : Tables) (n : ℕ) (phases : Phases)
           let full = exist (shape z) (is_shape z) run.size run.limit (start_of f z run.limit) s run.entries (is_start f engine.operators z run.size run.limit) run.reached (deal_of f z) in
           let m = sym (means tables (Plan-F.Limit r q.offset q.limit)) ∙ query_means phases engine.lists tables files n q z distincts fin.tree in
           top_limited f r q.offset q.limit (engine.limits r q.offset q.limit) one engine.operators (hashing_of h f engine.channels) wide run.size run.limit run.entries s full.0 run.reached full.1
-          (Means h f tables n phases engine) (all_kept h f tables n phases engine) q.order (whole tables q.body).items
+          (Means h f tables n phases engine) (all_kept h f tables n phases engine) q.order (meant_part tables q.body).items
           (λ x k. (
             subst (Alike x) (ap (λ (x : Meaning). x.items) m) (one_tells h f tables n phases engine r x sound (ap is_whole m) k),
             one_sorts h f tables n phases engine r x q.order sound order k,

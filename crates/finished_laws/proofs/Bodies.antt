@@ -11,7 +11,7 @@ use Rattle.logical_plan.specs.declared.plan.Logical.TheOpen.{Logical-F}
 use Rattle.logical_plan.specs.declared.plan.Logical.TheViews.{roll-Logical}
 use Rattle.logical_plan.specs.declared.plan.Logical.TheFolds.{fold-roll-Logical, para-roll-Logical, map-Logical, ind-Logical}
 use Rattle.logical_plan.specs.Items.{rows, concat}
-use Rattle.logical_plan.specs.Body.{Tables, whole}
+use Rattle.logical_plan.specs.Body.{Tables, meant_part}
 use Rattle.physical_plan.specs.Everywhere.{all_true}
 use Rattle.physical_plan.specs.declared.plan.Plan.{Plan}
 use Rattle.physical_plan.specs.declared.plan.Plan.TheVariants as plan
@@ -85,7 +85,7 @@ module _ (phases : Phases) (laws : LawsOfParts phases) (tables : Tables) (files 
   wholly : (q : Bodied) → has_distincts tables q.0 ≡ true → is_known tables files q.0 ≡ true → told (body_plan files n q.0) && is_whole (meaning_of tables (body_plan files n q.0)) ≡ true
   wholly q e k = both_are (told (body_plan files n q.0)) (is_whole (meaning_of tables (body_plan files n q.0))) (q.1 e k) (whole_body q.0 e)
 
-  grouped : (q : Bodied) (keys : List ℕ) (calls : List AggCall) → has_distincts tables q.0 ≡ true → is_known tables files q.0 ≡ true → is_kinded (whole tables q.0) ≡ true → told (two_phases (body_plan files n q.0) keys calls) ≡ true
+  grouped : (q : Bodied) (keys : List ℕ) (calls : List AggCall) → has_distincts tables q.0 ≡ true → is_known tables files q.0 ≡ true → is_kinded (meant_part tables q.0) ≡ true → told (two_phases (body_plan files n q.0) keys calls) ≡ true
   grouped q keys calls e k kinded =
       let b = body_plan files n q.0 in
       let first = plan.PartialGroup b keys calls in
@@ -130,9 +130,9 @@ module _ (phases : Phases) (laws : LawsOfParts phases) (tables : Tables) (files 
       let t = both_true (is_known tables files x.0) (is_known tables files y.0) k in
       rolled (plan.HashJoin kind b c keys rest) (Plan-F.HashJoin kind b c keys rest) (rolls-HashJoin kind b c keys rest)
       ∙ both_are (told b && is_whole (meaning_of tables b)) ((told c && is_whole (meaning_of tables c)) && true) (wholly x s.0 t.0) (both_are (told c && is_whole (meaning_of tables c)) true (wholly y s.1 t.1) refl)))
-  step (Logical-F.Aggregate x keys calls) = level (Logical-F.Aggregate x.0 keys calls) (λ e k. (let b = both_true (is_known tables files x.0) (is_kinded (whole tables x.0)) k in grouped x keys calls e b.0 b.1))
+  step (Logical-F.Aggregate x keys calls) = level (Logical-F.Aggregate x.0 keys calls) (λ e k. (let b = both_true (is_known tables files x.0) (is_kinded (meant_part tables x.0)) k in grouped x keys calls e b.0 b.1))
   step (Logical-F.Distinct x) = level (Logical-F.Distinct x.0) (λ e k. (
-      let w = whole tables x.0 in
+      let w = meant_part tables x.0 in
       let t = both_true (has_distincts tables x.0) (nat_lt 0 (length w.kinds) && all_are w.kinds (rows w.items)) e in
       let u = both_true (nat_lt 0 (length w.kinds)) (all_are w.kinds (rows w.items)) t.1 in
       grouped x (numbers (built_of files n x.0).width) [] t.0 k u.1))

@@ -18,7 +18,7 @@ use Rattle.physical_plan.specs.declared.plan.Plan.TheOpen.{Plan-F}
 use Rattle.physical_plan.specs.declared.plan.Plan.TheViews.{roll-Plan}
 use Rattle.physical_plan.specs.declared.plan.Plan.TheFolds.{fold-roll-Plan, map-Plan, ind-Plan}
 use Rattle.plan_shape.specs.Counts.{Counted, count_node, counts_of, in_all}
-use Rattle.physical_plan.specs.Properties.{Renaming, or_single, all_renamed, hashed_or_unknown, partitioning_renamed, join_partitioning, parts, counts, declared, declared_of, partitions, place_in, item_columns, kept_columns, props, left_keys, right_keys}
+use Rattle.physical_plan.specs.Properties.{Renaming, or_single, all_renamed, hashed_or_unknown, partitioning_renamed, join_partitioning, declared_partitions, counts, declared, declared_of, partitions, place_in, item_columns, kept_columns, props, left_keys, right_keys}
 use Rattle.physical_plan.specs.Everywhere.{Test, node_holds, everywhere, all_true}
 use Rattle.physical_plan.specs.Needs.{spread_needs}
 use Rattle.planned_laws.specs.Finished.{IsFinished}
@@ -76,13 +76,13 @@ module _ (n : ℕ) where
   plans ps = map (λ (p : Known). p.0) ps
 
   level : (z : Plan-F Plan)
-      → (node_holds test (map-Plan Plan (Plan × Bool) (λ p. (p, everywhere test p)) z) ≡ true → (count_node (map-Plan Plan Counted counts_of z)).parts ≡ parts (declared (map-Plan Plan Declared declared_of z)))
+      → (node_holds test (map-Plan Plan (Plan × Bool) (λ p. (p, everywhere test p)) z) ≡ true → (count_node (map-Plan Plan Counted counts_of z)).parts ≡ declared_partitions (declared (map-Plan Plan Declared declared_of z)))
       → CountOf (roll-Plan z)
   unfolding counts_of declared_of
   level z h e =
       ap (λ (c : Counted). c.parts) (fold-roll-Plan Counted count_node z)
       ∙ h (sym (rolled test z) ∙ e)
-      ∙ ap (λ (d : Declared). parts d) (sym (fold-roll-Plan Declared declared z))
+      ∙ ap (λ (d : Declared). declared_partitions d) (sym (fold-roll-Plan Declared declared z))
 
   below : (z : Bool) (p : Known) → z && (everywhere test p.0 && true) ≡ true → (counts_of p.0).parts ≡ partitions p.0
   below z p h = p.1 (one_below z (everywhere test p.0) h).1

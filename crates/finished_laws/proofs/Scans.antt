@@ -8,7 +8,7 @@ use Rattle.logical_plan.specs.declared.plan.Logical.TheOpen.{Logical-F}
 use Rattle.logical_plan.specs.declared.plan.Logical.TheViews.{roll-Logical}
 use Rattle.logical_plan.specs.declared.plan.Logical.TheFolds.{fold-roll-Logical, para-roll-Logical, map-Logical, ind-Logical}
 use Rattle.logical_plan.specs.Items.{rows, concat}
-use Rattle.logical_plan.specs.Body.{Tables, whole}
+use Rattle.logical_plan.specs.Body.{Tables, meant_part}
 use Rattle.physical_plan.specs.declared.plan.Plan.{Plan}
 use Rattle.physical_plan.specs.declared.plan.Plan.TheVariants as plan
 use Rattle.physical_plan.specs.declared.plan.Plan.TheVariants.{rolls-Scan, rolls-Filter, rolls-Project, rolls-PartialGroup, rolls-FinalGroup, rolls-HashJoin, rolls-Sort, rolls-UnionAll, rolls-Limit}
@@ -136,7 +136,7 @@ module _ (tables : Tables) where
         let c = body_plan files n y.0 in
         let t = both_true (is_known tables files x.0) (is_known tables files y.0) k in
         rolled_to (plan.HashJoin kind b c keys rest) (Plan-F.HashJoin kind b c keys rest) (rolls-HashJoin kind b c keys rest) ∙ both_are (fits b) (fits c && true) (x.1 t.0) (then_true (fits c) (y.1 t.1))))
-    body_step (Logical-F.Aggregate x keys calls) = body_level (Logical-F.Aggregate x.0 keys calls) (λ k. grouped (body_plan files n x.0) keys calls (x.1 (both_true (is_known tables files x.0) (is_kinded (whole tables x.0)) k).0))
+    body_step (Logical-F.Aggregate x keys calls) = body_level (Logical-F.Aggregate x.0 keys calls) (λ k. grouped (body_plan files n x.0) keys calls (x.1 (both_true (is_known tables files x.0) (is_kinded (meant_part tables x.0)) k).0))
     body_step (Logical-F.Distinct x) = body_level (Logical-F.Distinct x.0) (λ k. grouped (body_plan files n x.0) (numbers (built_of files n x.0).width) [] (x.1 k))
     body_step (Logical-F.UnionAll xs) = body_level (Logical-F.UnionAll (bodies xs)) (λ k. (
         let bs = map (λ (b : Built). b.plan) (map (built_of files n) (bodies xs)) in

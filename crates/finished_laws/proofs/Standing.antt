@@ -43,7 +43,7 @@ use Rattle.node_laws.proofs.Wholes.{node_stands}
 use Rattle.node_laws.proofs.Tested.{tested}
 use Rattle.plan_props.proofs.Sound.{order_sound}
 use Rattle.sort_laws.proofs.Rows.{order_from_sorted, sorted_from_order}
-use Rattle.answer_laws.specs.Gives.{Answers, AllAnswer, AllJoin}
+use Rattle.answer_laws.specs.Gives.{Yields, AllYield, AllJoin}
 use Rattle.answer_laws.specs.Kept.{AllHold, AreSplit, KeepsOrder, IsKept}
 use Rattle.answer_laws.specs.Meant.{Grouping, grouping, Phases, meaning_of, meant, finishes, files_of, is_whole, all_told, told_node, is_told}
 use Rattle.answer_laws.specs.Answering.{IsInput, IsAnswering}
@@ -66,7 +66,7 @@ use Rattle.finished_laws.proofs.Counted.{single_count}
 
 -- partition by partition, row by row
 pub by_rows : (g : Row → Option Row) (F : List Item → List Item) → ((x : List Item) → rows (F x) ≡ filter_map g (rows x)) → (op : ℕ → Op) → ((c : ℕ) (t : Told) (ins : ℕ → List Item) → IsSplit t → ReadsAll t ins → (op c).whole t ins ≡ F (ins 0))
-    → (xs ys : List (List Item)) → AllAnswer op xs ys → map rows ys ≡ by_row g (map rows xs)
+    → (xs ys : List (List Item)) → AllYield op xs ys → map rows ys ≡ by_row g (map rows xs)
 by_rows g F are op owes [] [] h = refl
 by_rows g F are op owes [] (y ∷ ys) h = absurd h
 by_rows g F are op owes (x ∷ xs) [] h = absurd h
@@ -76,7 +76,7 @@ by_rows g F are op owes (x ∷ xs) (y ∷ ys) h =
     ∙ ap (λ rs. filter_map g (rows x) ∷ rs) (by_rows g F are op owes xs ys h.1)
 
 -- as many, and each with the rows of its input
-pub answers_long : (op : ℕ → Op) (xs ys : List (List Item)) → AllAnswer op xs ys → length ys ≡ length xs
+pub answers_long : (op : ℕ → Op) (xs ys : List (List Item)) → AllYield op xs ys → length ys ≡ length xs
 answers_long op [] [] h = refl
 answers_long op [] (y ∷ ys) h = absurd h
 answers_long op (x ∷ xs) [] h = absurd h
@@ -84,7 +84,7 @@ answers_long op (x ∷ xs) (y ∷ ys) h = ap suc (answers_long op xs ys h.1)
 
 -- what holds of each partition's answer, over its input
 pub answered : (op : ℕ → Op) (P : List Item → List Item → Type 0) → P [] [] → ((c : ℕ) (t : Told) (ins : ℕ → List Item) → IsSplit t → ReadsAll t ins → P (ins 0) ((op c).whole t ins))
-    → (xs ys : List (List Item)) → AllAnswer op xs ys → (j : ℕ) → P (get_or xs j []) (get_or ys j [])
+    → (xs ys : List (List Item)) → AllYield op xs ys → (j : ℕ) → P (get_or xs j []) (get_or ys j [])
 answered op P none owes [] [] h j = none
 answered op P none owes [] (y ∷ ys) h j = absurd h
 answered op P none owes (x ∷ xs) [] h j = absurd h
@@ -120,14 +120,14 @@ module _ (f : Doing) (tables : Tables) (n : ℕ) (h : Hashing) (channels : IsCha
   whole_input : (b : Bool) (q : Plan) → b && (everywhere here q && true) ≡ true → is_told tables anyhow q && is_whole (meaning_of tables q) ≡ true → is_sound tables n q ≡ true
   whole_input b q e t = sound tables n q (one_below b (everywhere here q) e).1 (both_true (is_told tables anyhow q) (is_whole (meaning_of tables q)) t).0
 
-  pub filters : (q : Plan) (test : Expr) (xs ys : List (List Item)) → Holds-of q xs → AllAnswer (f.operator (Plan-F.Filter q test) 1) xs ys → Holds-of (roll-Plan (Plan-F.Filter q test)) ys
+  pub filters : (q : Plan) (test : Expr) (xs ys : List (List Item)) → Holds-of q xs → AllYield (f.operator (Plan-F.Filter q test) 1) xs ys → Holds-of (roll-Plan (Plan-F.Filter q test)) ys
   filters q test xs ys i a = level (Plan-F.Filter q test) ys (λ e t. (
       let z = Plan-F.Filter q test in
       let m = met_of tables n z (one_below (here z) (everywhere here q) e).0 in
       node_stands h n (Plan-F.Filter (input q xs) test) (map rows ys) (i (whole_input (here z) q e t), tt) (tested (Plan-F.Filter (q, map rows xs) test) m.ranges)
       (by_rows (kept test) (filter_items test) (filter_rows test) (f.operator z 1) (answering.filter q test) xs ys a)))
 
-  pub projects : (q : Plan) (items : List Expr) (xs ys : List (List Item)) → Holds-of q xs → AllAnswer (f.operator (Plan-F.Project q items) 1) xs ys → Holds-of (roll-Plan (Plan-F.Project q items)) ys
+  pub projects : (q : Plan) (items : List Expr) (xs ys : List (List Item)) → Holds-of q xs → AllYield (f.operator (Plan-F.Project q items) 1) xs ys → Holds-of (roll-Plan (Plan-F.Project q items)) ys
   projects q items xs ys i a = level (Plan-F.Project q items) ys (λ e t. (
       let z = Plan-F.Project q items in
       node_stands h n (Plan-F.Project (input q xs) items) (map rows ys) (i (whole_input (here z) q e t), tt) tt
@@ -158,13 +158,13 @@ module _ (f : Doing) (tables : Tables) (n : ℕ) (h : Hashing) (channels : IsCha
 
   -- ------------------------------------------------------------ bags, and orders
 
-  sorted_rows : (q : Plan) (keys : List SortKey) (xs ys : List (List Item)) → AllAnswer (f.operator (Plan-F.Sort q keys) 1) xs ys → (j : ℕ) (r : Row) → Holds (get_or (map rows ys) j []) r → Holds (get_or (map rows xs) j []) r
+  sorted_rows : (q : Plan) (keys : List SortKey) (xs ys : List (List Item)) → AllYield (f.operator (Plan-F.Sort q keys) 1) xs ys → (j : ℕ) (r : Row) → Holds (get_or (map rows ys) j []) r → Holds (get_or (map rows xs) j []) r
   sorted_rows q keys xs ys a j r i =
       subst (λ rs. Holds rs r) (sym (part_rows xs j))
       (answered (f.operator (Plan-F.Sort q keys) 1) (λ x y. Holds (rows y) r → Holds (rows x) r) (λ k. k)
       (λ c t ins s d k. bag_holds (ins 0) ((f.operator (Plan-F.Sort q keys) 1 c).whole t ins) (answering.sort q keys c t ins s d) r k) xs ys a j (subst (λ rs. Holds rs r) (part_rows ys j) i))
 
-  pub sorts : (q : Plan) (keys : List SortKey) (xs ys : List (List Item)) → Holds-of q xs → AllAnswer (f.operator (Plan-F.Sort q keys) 1) xs ys → Holds-of (roll-Plan (Plan-F.Sort q keys)) ys
+  pub sorts : (q : Plan) (keys : List SortKey) (xs ys : List (List Item)) → Holds-of q xs → AllYield (f.operator (Plan-F.Sort q keys) 1) xs ys → Holds-of (roll-Plan (Plan-F.Sort q keys)) ys
   sorts q keys xs ys i a = level (Plan-F.Sort q keys) ys (λ e t. (
       let op = f.operator (Plan-F.Sort q keys) 1 in
       let s = i (sound tables n q (one_below (here (Plan-F.Sort q keys)) (everywhere here q) e).1 t) in
@@ -175,7 +175,7 @@ module _ (f : Doing) (tables : Tables) (n : ℕ) (h : Hashing) (channels : IsCha
             (answered op (λ x y. InOrder keys (rows y)) tt (λ c t2 ins s d. order_from_sorted keys (rows ((op c).whole t2 ins)) (ordering.sort q keys c t2 ins s d)) xs ys a j);
       })))
 
-  pub merges : (q : Plan) (keys : List SortKey) (xs : List (List Item)) (y : List Item) → Holds-of q xs → Answers (f.operator (Plan-F.Merge q keys) (length xs)) xs y → Holds-of (roll-Plan (Plan-F.Merge q keys)) (y ∷ [])
+  pub merges : (q : Plan) (keys : List SortKey) (xs : List (List Item)) (y : List Item) → Holds-of q xs → Yields (f.operator (Plan-F.Merge q keys) (length xs)) xs y → Holds-of (roll-Plan (Plan-F.Merge q keys)) (y ∷ [])
   merges q keys xs y i a = level (Plan-F.Merge q keys) (y ∷ []) (λ e t. (
       let b = one_below (here (Plan-F.Merge q keys)) (everywhere here q) e in
       let s = i (sound tables n q b.1 t) in
@@ -379,7 +379,7 @@ module _ (f : Doing) (tables : Tables) (n : ℕ) (h : Hashing) (channels : IsCha
         let r = each_at (GroupRow g.columns (rows m.0)) (rows (phases.first g m.0)) (groups.first g m.0) s m.1 in
         ((r.0, r.1, subst (λ zs. Holds (rows zs) r.0) e (m.2 r.0 r.2), r.3), each_at (IsWide (length g.columns + sum (map state_width g.calls))) (rows (phases.first g m.0)) (groups.first_wide g m.0) s m.1)
 
-    pub partials : (q : Plan) (keys : List ℕ) (calls : List AggCall) (xs ys : List (List Item)) → Holds-of q xs → AllAnswer (f.operator (Plan-F.PartialGroup q keys calls) 1) xs ys → Holds-of (roll-Plan (Plan-F.PartialGroup q keys calls)) ys
+    pub partials : (q : Plan) (keys : List ℕ) (calls : List AggCall) (xs ys : List (List Item)) → Holds-of q xs → AllYield (f.operator (Plan-F.PartialGroup q keys calls) 1) xs ys → Holds-of (roll-Plan (Plan-F.PartialGroup q keys calls)) ys
     partials q keys calls xs ys i a = level (Plan-F.PartialGroup q keys calls) ys (λ e t. (
         let z = Plan-F.PartialGroup q keys calls in
         let op = f.operator z 1 in
@@ -403,7 +403,7 @@ module _ (f : Doing) (tables : Tables) (n : ℕ) (h : Hashing) (channels : IsCha
       pub once : AllDiffer (length ks) (rows y)
       pub wide : meets.Each (IsWide (length ks + length calls)) (rows y)
 
-    pub finals : (q : Plan) (keys : List ℕ) (calls : List AggCall) (xs ys : List (List Item)) → Holds-of q xs → AllAnswer (f.operator (Plan-F.FinalGroup q keys calls) 1) xs ys → Holds-of (roll-Plan (Plan-F.FinalGroup q keys calls)) ys
+    pub finals : (q : Plan) (keys : List ℕ) (calls : List AggCall) (xs ys : List (List Item)) → Holds-of q xs → AllYield (f.operator (Plan-F.FinalGroup q keys calls) 1) xs ys → Holds-of (roll-Plan (Plan-F.FinalGroup q keys calls)) ys
     finals q keys calls xs ys i a = level (Plan-F.FinalGroup q keys calls) ys (λ e t. (
         let z = Plan-F.FinalGroup q keys calls in
         let op = f.operator z 1 in

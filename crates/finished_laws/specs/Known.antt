@@ -7,7 +7,7 @@ use Rattle.logical_plan.specs.declared.plan.Logical.{Logical}
 use Rattle.logical_plan.specs.declared.plan.Logical.TheOpen.{Logical-F}
 use Rattle.logical_plan.specs.declared.plan.Logical.TheFolds.{para-Logical}
 use Rattle.logical_plan.specs.Items.{rows, concat}
-use Rattle.logical_plan.specs.Body.{Tables, Part, whole}
+use Rattle.logical_plan.specs.Body.{Tables, Part, meant_part}
 use Rattle.answer_laws.specs.Meant.{files_of}
 use Rattle.finished_laws.specs.Sound.{are_wide}
 
@@ -23,7 +23,7 @@ known_node tables files (Logical-F.Scan table kinds) =
 known_node tables files (Logical-F.Filter input test) = input.1
 known_node tables files (Logical-F.Project input items) = input.1
 known_node tables files (Logical-F.Join kind left right keys rest) = left.1 && right.1
-known_node tables files (Logical-F.Aggregate input keys calls) = input.1 && is_kinded (whole tables input.0)
+known_node tables files (Logical-F.Aggregate input keys calls) = input.1 && is_kinded (meant_part tables input.0)
 known_node tables files (Logical-F.Distinct input) = input.1
 known_node tables files (Logical-F.UnionAll inputs) = all_true (map (λ (q : Logical × Bool). q.1) inputs)
 

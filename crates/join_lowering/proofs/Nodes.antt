@@ -10,7 +10,7 @@ use Rattle.scalar_exprs.specs.declared.expr.Expr.TheFolds.{fold-roll-Expr, para-
 use Rattle.scalar_exprs.specs.declared.expr.Expr.TheVariants.{Column, Const, Not, Neg, IsNull, Binary, Case, Coalesce, Cast, Abs, Length, rolls-Column, rolls-Const, rolls-Not, rolls-Neg, rolls-IsNull, rolls-Binary, rolls-Case, rolls-Coalesce, rolls-Cast, rolls-Abs, rolls-Length}
 use Rattle.join_lowering.specs.Keys.{split, split_at, conjuncts, node_columns, columns}
 use Rattle.join_lowering.specs.Lowering.{renumber, renumbered}
-use Rattle.join_lowering.specs.Words.{arm_columns, all_columns, renumbered_arms}
+use Rattle.join_lowering.specs.SidesUsed.{arm_columns, all_columns, renumbered_arms}
 
 -- ---- columns
 

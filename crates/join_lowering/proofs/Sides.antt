@@ -6,7 +6,7 @@ use Rattle.std.proofs.lemmas.List.{at_drop_all, at_drop_more}
 use Rattle.scalar_exprs.specs.declared.expr.Expr.{Expr}
 use Rattle.join_lowering.specs.declared.uses.Uses.{Uses}
 use Rattle.join_lowering.specs.Keys.{columns}
-use Rattle.join_lowering.specs.Words.{with_columns, arm_columns, all_columns}
+use Rattle.join_lowering.specs.SidesUsed.{with_columns, arm_columns, all_columns}
 
 or_none : (a : Bool) → (a || false) ≡ a
 or_none true = refl

@@ -1,3 +1,3 @@
 pub mod Keys
 pub mod Lowering
-pub mod Words
+pub mod SidesUsed

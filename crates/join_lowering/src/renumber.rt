@@ -2,7 +2,7 @@
 
 ghost use Rattle.std.specs.Prelude.{◌≡◌, ◌+◌, IfOk, map, option_map};
 ghost use Rattle.join_lowering.specs.Lowering as spec;
-ghost use Rattle.join_lowering.specs.Words as words;
+ghost use Rattle.join_lowering.specs.SidesUsed as words;
 
 use dfx_value::{NoMemory, copy_value};
 use scalar_exprs::Expr;

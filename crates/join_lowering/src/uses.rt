@@ -2,7 +2,7 @@
 
 ghost use Rattle.std.specs.Prelude.{◌≡◌, [], ◌∷◌};
 ghost use Rattle.join_lowering.specs.Keys as spec;
-ghost use Rattle.join_lowering.specs.Words as words;
+ghost use Rattle.join_lowering.specs.SidesUsed as words;
 
 use scalar_exprs::Expr;
 
@@ -13,7 +13,7 @@ pub struct Uses {
     pub right: bool,
 }
 
-#[tactic(auto, unfolding(crate::specs::Words::with_columns))]
+#[tactic(auto, unfolding(crate::specs::SidesUsed::with_columns))]
 fn with_column(column: u32, width: u32, before: Uses) -> Uses
     ensures { result ≡ words.with_columns width before (column ∷ []) }
 {
@@ -81,7 +81,7 @@ fn uses_of(expr: &Expr, width: u32, before: Uses) -> Uses
 }
 
 /// The sides that an expression uses columns of.
-#[tactic(auto, unfolding(crate::specs::Words::with_columns))]
+#[tactic(auto, unfolding(crate::specs::SidesUsed::with_columns))]
 pub(crate) fn used_by(expr: &Expr, width: u32) -> Uses
     ensures left { result.left ≡ spec.uses_left width (spec.columns expr.now) }
     ensures right { result.right ≡ spec.uses_right width (spec.columns expr.now) }

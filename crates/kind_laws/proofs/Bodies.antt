@@ -18,7 +18,7 @@ use Rattle.logical_plan.specs.declared.plan.Logical.TheFolds.{fold-roll-Logical,
 use Rattle.logical_plan.specs.Items.{Item, rows, concat}
 use Rattle.logical_plan.specs.Joins.{joined}
 use Rattle.logical_plan.specs.Groups.{aggregated}
-use Rattle.logical_plan.specs.Body.{Tables, Part, whole, body, kinds, node, scan, first_kinds, key_kinds, call_kinds}
+use Rattle.logical_plan.specs.Body.{Tables, Part, meant_part, body, kinds, node, scan, first_kinds, key_kinds, call_kinds}
 use Rattle.logical_plan.proofs.BodySteps.{kinds_at}
 use Rattle.kind_laws.specs.Kinded.{same_kinds, has_kind, is_test, is_rest, keys_compare, has_columns, calls_fit, is_table, all_as, are_united, kinded_node, is_well_kinded}
 use Rattle.kind_laws.specs.Giving.{gives_kinds, all_give, below_node, all_below_give, everywhere_kinded}
@@ -69,8 +69,8 @@ module _ (kss : List (List Kind)) (tables : Tables) (have : TablesHave kss table
   unfolding is_well_kinded
   kinded_rolled z = para-roll-Logical Bool (kinded_node kss) z
 
-  whole_rolled : (t : Tables) (z : Logical-F Logical) → whole t (roll-Logical z) ≡ node t (map-Logical Logical Part (whole t) z)
-  unfolding whole
+  whole_rolled : (t : Tables) (z : Logical-F Logical) → meant_part t (roll-Logical z) ≡ node t (map-Logical Logical Part (meant_part t) z)
+  unfolding meant_part
   whole_rolled t z = fold-roll-Logical Part (node t) z
 
   abbrev Gives : Logical → Type 0
@@ -80,31 +80,31 @@ module _ (kss : List (List Kind)) (tables : Tables) (have : TablesHave kss table
   Giver = (q : Logical) × Gives q
 
   level : (z : Logical-F Logical)
-      → (kinded_node kss (map-Logical Logical (Logical × Bool) marked z) ≡ true → all_are (node [] (map-Logical Logical Part (whole []) z)).kinds (rows (node tables (map-Logical Logical Part (whole tables) z)).items) ≡ true)
+      → (kinded_node kss (map-Logical Logical (Logical × Bool) marked z) ≡ true → all_are (node [] (map-Logical Logical Part (meant_part []) z)).kinds (rows (node tables (map-Logical Logical Part (meant_part tables) z)).items) ≡ true)
       → Gives (roll-Logical z)
   unfolding kinds
   level z h e =
       ap (λ (p : Part). all_are p.kinds (rows (body tables (roll-Logical z)))) (whole_rolled [] z)
-      ∙ ap (λ (p : Part). all_are (node [] (map-Logical Logical Part (whole []) z)).kinds (rows p.items)) (whole_rolled tables z)
+      ∙ ap (λ (p : Part). all_are (node [] (map-Logical Logical Part (meant_part []) z)).kinds (rows p.items)) (whole_rolled tables z)
       ∙ h (sym (kinded_rolled z) ∙ e)
 
   joins : (x y : Logical) (kind : JoinKind) (keys : List (ℕ × ℕ)) (rest : Option Expr) → gives_kinds tables x ≡ true → gives_kinds tables y ≡ true
-      → all_are (kinds x ++ kinds y) (rows (joined kind (length (whole tables x).kinds) (length (whole tables y).kinds) keys rest (body tables x) (body tables y))) ≡ true
+      → all_are (kinds x ++ kinds y) (rows (joined kind (length (meant_part tables x).kinds) (length (meant_part tables y).kinds) keys rest (body tables x) (body tables y))) ≡ true
   joins x y kind keys rest p q =
-      ap (λ (ks : List Kind). all_are (kinds x ++ kinds y) (rows (joined kind (length ks) (length (whole tables y).kinds) keys rest (body tables x) (body tables y)))) (kinds_at tables x)
+      ap (λ (ks : List Kind). all_are (kinds x ++ kinds y) (rows (joined kind (length ks) (length (meant_part tables y).kinds) keys rest (body tables x) (body tables y)))) (kinds_at tables x)
       ∙ ap (λ (ks : List Kind). all_are (kinds x ++ kinds y) (rows (joined kind (length (kinds x)) (length ks) keys rest (body tables x) (body tables y)))) (kinds_at tables y)
       ∙ join_gives (kinds x) (kinds y) keys rest kind (body tables x) (body tables y) p q
 
   groups : (x : Logical) (keys : List ℕ) (calls : List AggCall)
       → all_are (key_kinds (kinds x) keys ++ call_kinds (kinds x) calls) (rows (aggregated keys calls (kinds x) (body tables x))) ≡ true
-      → all_are (key_kinds (kinds x) keys ++ call_kinds (kinds x) calls) (rows (aggregated keys calls (whole tables x).kinds (body tables x))) ≡ true
+      → all_are (key_kinds (kinds x) keys ++ call_kinds (kinds x) calls) (rows (aggregated keys calls (meant_part tables x).kinds (body tables x))) ≡ true
   groups x keys calls p = ap (λ (ks : List Kind). all_are (key_kinds (kinds x) keys ++ call_kinds (kinds x) calls) (rows (aggregated keys calls ks (body tables x)))) (kinds_at tables x) ∙ p
 
   abbrev bodies : List Giver → List Logical
   bodies qs = map (λ (q : Giver). q.0) qs
 
   abbrev together : List Logical → List Item
-  together qs = concat (map (λ (p : Part). p.items) (map (whole tables) qs))
+  together qs = concat (map (λ (p : Part). p.items) (map (meant_part tables) qs))
 
   united : (ks : List Kind) (qs : List Giver) → all_as ks (map marked (bodies qs)) ≡ true → all_are ks (rows (together (bodies qs))) ≡ true
   united ks [] e = refl
@@ -114,7 +114,7 @@ module _ (kss : List (List Kind)) (tables : Tables) (have : TablesHave kss table
       items_append ks (body tables q.0) (together (bodies qs))
       (subst (λ js. all_are js (rows (body tables q.0)) ≡ true) (sym (same_kinds_are ks (kinds q.0) b.0)) (q.1 a.0)) (united ks qs b.1)
 
-  unions : (qs : List Giver) → are_united (map marked (bodies qs)) ≡ true → all_are (first_kinds (map (whole []) (bodies qs))) (rows (together (bodies qs))) ≡ true
+  unions : (qs : List Giver) → are_united (map marked (bodies qs)) ≡ true → all_are (first_kinds (map (meant_part []) (bodies qs))) (rows (together (bodies qs))) ≡ true
   unfolding kinds
   unions [] e = refl
   unions (q ∷ qs) e =

@@ -5,19 +5,14 @@ use Rattle.std.specs.List.{list_all}
 use Rattle.dfx_value.specs.Kinds.{are_kinds}
 use Rattle.dfx_value.specs.declared.kind.Kind.{Kind}
 use Rattle.dfx_value.specs.declared.kind.Kind.TheVariants as kind
-use Rattle.dfx_value.specs.declared.op.AggCall.{AggCall}
 use Rattle.scalar_exprs.specs.declared.expr.Expr.{Expr}
-use Rattle.scalar_exprs.specs.Kinds.{same, one_class, kind_of, constants_fit, call_kind}
+use Rattle.scalar_exprs.specs.Kinds.{one_class, kind_of, constants_fit}
 use Rattle.logical_plan.specs.declared.plan.Logical.{Logical}
 use Rattle.logical_plan.specs.declared.plan.Logical.TheOpen.{Logical-F}
 use Rattle.logical_plan.specs.declared.plan.Logical.TheFolds.{para-Logical}
 use Rattle.logical_plan.specs.Body.{kinds}
-
--- one by one, and as many
-abbrev pub same_kinds : List Kind → List Kind → Bool
-same_kinds [] [] = true
-same_kinds (j ∷ js) (k ∷ ks) = same j k && same_kinds js ks
-same_kinds _ _ = false
+pub use Rattle.plan_kinds.specs.Phases.{has_columns, calls_fit}
+pub use Rattle.plan_kinds.specs.Kinds.{same_kinds}
 
 -- ---- expressions over columns of these kinds
 
@@ -48,13 +43,6 @@ are_comparable _ _ = false
 abbrev pub keys_compare : List Kind → List Kind → List (ℕ × ℕ) → Bool
 keys_compare left right =
     list_all (λ (key : ℕ × ℕ). are_comparable (slice_get left key.0) (slice_get right key.1))
-
-abbrev pub has_columns : List Kind → List ℕ → Bool
-has_columns columns = list_all (λ c. is_some (slice_get columns c))
-
--- each call has a kind, so its argument is a column
-abbrev pub calls_fit : List Kind → List AggCall → Bool
-calls_fit columns = list_all (λ c. is_some (call_kind c columns))
 
 -- ---- nodes
 

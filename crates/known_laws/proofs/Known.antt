@@ -14,7 +14,7 @@ use Rattle.logical_plan.specs.declared.plan.Logical.TheOpen.{Logical-F}
 use Rattle.logical_plan.specs.declared.plan.Logical.TheViews.{roll-Logical}
 use Rattle.logical_plan.specs.declared.plan.Logical.TheFolds.{para-roll-Logical, map-Logical, ind-Logical}
 use Rattle.logical_plan.specs.Items.{Cells, rows, concat}
-use Rattle.logical_plan.specs.Body.{Tables, whole, body, kinds}
+use Rattle.logical_plan.specs.Body.{Tables, meant_part, body, kinds}
 use Rattle.logical_plan.proofs.BodySteps.{kinds_at}
 use Rattle.scan_run.specs.Sources.{CsvTable, tables_from}
 use Rattle.kind_laws.specs.Kinded.{same_kinds, has_kind, is_test, is_rest, keys_compare, has_columns, calls_fit, is_table, all_as, are_united, kinded_node, is_well_kinded}
@@ -69,10 +69,10 @@ module _ (kss : List (List Kind)) (tables : Tables) (have : TablesHave kss table
       → IsMet (roll-Logical z)
   level z h e = let b = h (sym (kinded_rolled kss tables have z) ∙ e) in (distincts_rolled z ∙ b.0, known_rolled z ∙ b.1)
 
-  kinded : (q : Logical) → is_well_kinded kss q ≡ true → is_kinded (whole tables q) ≡ true
+  kinded : (q : Logical) → is_well_kinded kss q ≡ true → is_kinded (meant_part tables q) ≡ true
   kinded q e = ap (λ (ks : List Kind). all_are ks (rows (body tables q))) (kinds_at tables q) ∙ giving kss tables have q e
 
-  many : (q : Logical) → nat_lt 0 (length (kinds q)) ≡ true → nat_lt 0 (length (whole tables q).kinds) ≡ true
+  many : (q : Logical) → nat_lt 0 (length (kinds q)) ≡ true → nat_lt 0 (length (meant_part tables q).kinds) ≡ true
   many q e = ap (λ (ks : List Kind). nat_lt 0 (length ks)) (kinds_at tables q) ∙ e
 
   scans : (table : ℕ) (ks : List Kind) → is_table (slice_get kss table) ks ≡ true → known_node tables files (Logical-F.Scan table ks) ≡ true
@@ -121,12 +121,12 @@ module _ (kss : List (List Kind)) (tables : Tables) (have : TablesHave kss table
   step (Logical-F.Aggregate x keys calls) = level (Logical-F.Aggregate x.0 keys calls) (λ e. (
       let a = and_parts (is_well_kinded kss x.0) (has_columns (kinds x.0) keys && calls_fit (kinds x.0) calls) e in
       let b = x.1 a.0 in
-      (b.0, and_from (is_known tables files x.0) (is_kinded (whole tables x.0)) b.1 (kinded x.0 a.0))))
+      (b.0, and_from (is_known tables files x.0) (is_kinded (meant_part tables x.0)) b.1 (kinded x.0 a.0))))
   step (Logical-F.Distinct x) = level (Logical-F.Distinct x.0) (λ e. (
       let a = and_parts (is_well_kinded kss x.0) (nat_lt 0 (length (kinds x.0))) e in
       let b = x.1 a.0 in (
-        and_from (has_distincts tables x.0) (nat_lt 0 (length (whole tables x.0).kinds) && is_kinded (whole tables x.0)) b.0
-            (and_from (nat_lt 0 (length (whole tables x.0).kinds)) (is_kinded (whole tables x.0)) (many x.0 a.1) (kinded x.0 a.0)),
+        and_from (has_distincts tables x.0) (nat_lt 0 (length (meant_part tables x.0).kinds) && is_kinded (meant_part tables x.0)) b.0
+            (and_from (nat_lt 0 (length (meant_part tables x.0).kinds)) (is_kinded (meant_part tables x.0)) (many x.0 a.1) (kinded x.0 a.0)),
         b.1,
       )))
   step (Logical-F.UnionAll xs) = level (Logical-F.UnionAll (bodies xs)) (λ e. unions xs e)

@@ -12,20 +12,20 @@ use Rattle.logical_plan.specs.declared.plan.Logical.TheViews.{roll-Logical}
 use Rattle.logical_plan.specs.Items.{concat, faults, filter_items, project_items}
 use Rattle.logical_plan.specs.Joins.{joined}
 use Rattle.logical_plan.specs.Groups.{aggregated, distinct}
-use Rattle.logical_plan.specs.Body.{Part, Tables, whole, body, all_faults, node, scan, kinds}
+use Rattle.logical_plan.specs.Body.{Part, Tables, meant_part, body, all_faults, node, scan, kinds}
 use Rattle.logical_plan.proofs.SameKinds.{same_kinds}
 
-at_level : (tables : Tables) (q : Logical) (z : Logical-F Logical) → roll-Logical z ≡ q → whole tables q ≡ node tables (map-Logical Logical Part (whole tables) z)
-unfolding whole
-at_level tables q z r = ap (whole tables) (sym r) ∙ fold-roll-Logical Part (node tables) z
+at_level : (tables : Tables) (q : Logical) (z : Logical-F Logical) → roll-Logical z ≡ q → meant_part tables q ≡ node tables (map-Logical Logical Part (meant_part tables) z)
+unfolding meant_part
+at_level tables q z r = ap (meant_part tables) (sym r) ∙ fold-roll-Logical Part (node tables) z
 
-items_at : (tables : Tables) (q : Logical) (z : Logical-F Logical) → roll-Logical z ≡ q → body tables q ≡ (node tables (map-Logical Logical Part (whole tables) z)).items
+items_at : (tables : Tables) (q : Logical) (z : Logical-F Logical) → roll-Logical z ≡ q → body tables q ≡ (node tables (map-Logical Logical Part (meant_part tables) z)).items
 items_at tables q z r = ap (λ (p : Part). p.items) (at_level tables q z r)
 
-faults_at : (tables : Tables) (q : Logical) (z : Logical-F Logical) → roll-Logical z ≡ q → all_faults tables q ≡ (node tables (map-Logical Logical Part (whole tables) z)).met
+faults_at : (tables : Tables) (q : Logical) (z : Logical-F Logical) → roll-Logical z ≡ q → all_faults tables q ≡ (node tables (map-Logical Logical Part (meant_part tables) z)).met
 faults_at tables q z r = ap (λ (p : Part). p.met) (at_level tables q z r)
 
-pub kinds_at : (tables : Tables) (q : Logical) → (whole tables q).kinds ≡ kinds q
+pub kinds_at : (tables : Tables) (q : Logical) → (meant_part tables q).kinds ≡ kinds q
 unfolding kinds
 kinds_at tables q = same_kinds tables [] q
 
@@ -43,7 +43,7 @@ body-Project tables input items = items_at tables (Project input items) (Logical
 pub body-Join : (tables : Tables) (kind : JoinKind) (left right : Logical) (keys : List (ℕ × ℕ)) (rest : Option Expr) →
     body tables (Join kind left right keys rest) ≡ joined kind (length (kinds left)) (length (kinds right)) keys rest (body tables left) (body tables right)
 body-Join tables kind left right keys rest = items_at tables (Join kind left right keys rest) (Logical-F.Join kind left right keys rest) (rolls-Join kind left right keys rest)
-    ∙ ap (λ ks. joined kind (length ks) (length (whole tables right).kinds) keys rest (body tables left) (body tables right)) (kinds_at tables left)
+    ∙ ap (λ ks. joined kind (length ks) (length (meant_part tables right).kinds) keys rest (body tables left) (body tables right)) (kinds_at tables left)
     ∙ ap (λ ks. joined kind (length (kinds left)) (length ks) keys rest (body tables left) (body tables right)) (kinds_at tables right)
 
 pub body-Aggregate : (tables : Tables) (input : Logical) (keys : List ℕ) (calls : List AggCall) →
@@ -54,7 +54,7 @@ body-Aggregate tables input keys calls = items_at tables (Aggregate input keys c
 pub body-Distinct : (tables : Tables) (input : Logical) → body tables (Distinct input) ≡ distinct (body tables input)
 body-Distinct tables input = items_at tables (Distinct input) (Logical-F.Distinct input) (rolls-Distinct input)
 
-pub body-UnionAll : (tables : Tables) (inputs : List Logical) → body tables (UnionAll inputs) ≡ concat (map (λ (p : Part). p.items) (map (whole tables) inputs))
+pub body-UnionAll : (tables : Tables) (inputs : List Logical) → body tables (UnionAll inputs) ≡ concat (map (λ (p : Part). p.items) (map (meant_part tables) inputs))
 body-UnionAll tables inputs = items_at tables (UnionAll inputs) (Logical-F.UnionAll inputs) (rolls-UnionAll inputs)
 
 pub ruleset bodies = (body-Scan, body-Filter, body-Project, body-Join, body-Aggregate, body-Distinct, body-UnionAll)
@@ -76,7 +76,7 @@ pub all_faults-Join : (tables : Tables) (kind : JoinKind) (left right : Logical)
     all_faults tables (Join kind left right keys rest)
     ≡ faults (joined kind (length (kinds left)) (length (kinds right)) keys rest (body tables left) (body tables right)) ++ (all_faults tables left ++ all_faults tables right)
 all_faults-Join tables kind left right keys rest = faults_at tables (Join kind left right keys rest) (Logical-F.Join kind left right keys rest) (rolls-Join kind left right keys rest)
-    ∙ ap (λ ks. faults (joined kind (length ks) (length (whole tables right).kinds) keys rest (body tables left) (body tables right)) ++ (all_faults tables left ++ all_faults tables right)) (kinds_at tables left)
+    ∙ ap (λ ks. faults (joined kind (length ks) (length (meant_part tables right).kinds) keys rest (body tables left) (body tables right)) ++ (all_faults tables left ++ all_faults tables right)) (kinds_at tables left)
     ∙ ap (λ ks. faults (joined kind (length (kinds left)) (length ks) keys rest (body tables left) (body tables right)) ++ (all_faults tables left ++ all_faults tables right)) (kinds_at tables right)
 
 pub all_faults-Aggregate : (tables : Tables) (input : Logical) (keys : List ℕ) (calls : List AggCall) →
@@ -88,7 +88,7 @@ pub all_faults-Distinct : (tables : Tables) (input : Logical) → all_faults tab
 all_faults-Distinct tables input = faults_at tables (Distinct input) (Logical-F.Distinct input) (rolls-Distinct input)
 
 pub all_faults-UnionAll : (tables : Tables) (inputs : List Logical) →
-    all_faults tables (UnionAll inputs) ≡ faults (concat (map (λ (p : Part). p.items) (map (whole tables) inputs))) ++ concat (map (λ (p : Part). p.met) (map (whole tables) inputs))
+    all_faults tables (UnionAll inputs) ≡ faults (concat (map (λ (p : Part). p.items) (map (meant_part tables) inputs))) ++ concat (map (λ (p : Part). p.met) (map (meant_part tables) inputs))
 all_faults-UnionAll tables inputs = faults_at tables (UnionAll inputs) (Logical-F.UnionAll inputs) (rolls-UnionAll inputs)
 
 pub ruleset faults_met = (all_faults-Scan, all_faults-Filter, all_faults-Project, all_faults-Join, all_faults-Aggregate, all_faults-Distinct, all_faults-UnionAll)

@@ -13,7 +13,7 @@ use Rattle.dfx_value.specs.declared.op.Op.TheVariants as op
 use Rattle.scalar_exprs.specs.declared.expr.Expr.{Expr}
 use Rattle.scalar_exprs.specs.declared.expr.Expr.TheVariants.{Column, Const, Binary}
 use Rattle.scalar_exprs.specs.Agg.{agg}
-use Rattle.scalar_exprs.specs.Functions.{whole as whole_number}
+use Rattle.scalar_exprs.specs.Functions.{int_outcome as whole_number}
 use Rattle.scalar_exprs.proofs.EvalLemmas.{evals}
 use Rattle.logical_plan.specs.Items.{Item, filter_items, project_items}
 use Rattle.logical_plan.specs.Joins.{joined}

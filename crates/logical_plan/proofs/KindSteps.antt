@@ -9,10 +9,10 @@ use Rattle.logical_plan.specs.declared.plan.Logical.TheOpen.{Logical-F}
 use Rattle.logical_plan.specs.declared.plan.Logical.TheVariants.{Scan, Filter, Project, Join, Aggregate, Distinct, UnionAll, rolls-Scan, rolls-Filter, rolls-Project, rolls-Join, rolls-Aggregate, rolls-Distinct, rolls-UnionAll}
 use Rattle.logical_plan.specs.declared.plan.Logical.TheFolds.{fold-roll-Logical, map-Logical}
 use Rattle.logical_plan.specs.declared.plan.Logical.TheViews.{roll-Logical}
-use Rattle.logical_plan.specs.Body.{Part, whole, node, kinds, item_kinds, key_kinds, call_kinds, union_kinds}
+use Rattle.logical_plan.specs.Body.{Part, meant_part, node, kinds, item_kinds, key_kinds, call_kinds, union_kinds}
 
-at_level : (q : Logical) (z : Logical-F Logical) → roll-Logical z ≡ q → kinds q ≡ (node [] (map-Logical Logical Part (whole []) z)).kinds
-unfolding kinds whole
+at_level : (q : Logical) (z : Logical-F Logical) → roll-Logical z ≡ q → kinds q ≡ (node [] (map-Logical Logical Part (meant_part []) z)).kinds
+unfolding kinds meant_part
 at_level q z r = ap kinds (sym r) ∙ ap (λ (p : Part). p.kinds) (fold-roll-Logical Part (node []) z)
 
 pub kinds-Scan : (table : ℕ) (ks : List Kind) → kinds (Scan table ks) ≡ ks

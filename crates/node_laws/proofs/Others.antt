@@ -14,7 +14,7 @@ use Rattle.plan_props.specs.Satisfies.{partition_count}
 use Rattle.plan_props.specs.Meets.{Row, Hashing, Equals, PairsHold, Agree, cells_at, Each, NotBefore, InOrder, Hashed, part, Meets, is_null}
 use Rattle.plan_props.proofs.Sound.{each_map, each_all}
 use Rattle.physical_plan.specs.declared.properties.Declared.{Declared}
-use Rattle.physical_plan.specs.Properties.{sorted, kept_order, repartitioned, or_single, parts, united, hash_joined, left_keys, shifted, joined_pairs}
+use Rattle.physical_plan.specs.Properties.{sorted, kept_order, repartitioned, or_single, declared_partitions, united, hash_joined, left_keys, shifted, joined_pairs}
 use Rattle.node_laws.specs.NodeRows.{Holds, HoldsIn, Arranged, IsSubsequence, Dealt, Exchanged, Matches, nulls, InnerRow, LeftRow, Joined, united_parts}
 use Rattle.node_laws.specs.Joins.{AllMeet, Within, PairsWithin, Sides}
 use Rattle.node_laws.proofs.Meetings.{agree-append, pairs-append}
@@ -71,10 +71,10 @@ order_sub keys (r ∷ rs) (s ∷ ss) (inr w) o = order_sub keys (r ∷ rs) ss w 
 
 -- the order of one input is kept
 pub dealt_order : (h : Hashing) (n : ℕ) (d : Declared) (ins outs : List (List Row)) → Dealt n ins outs → Meets h d.props ins → (j : ℕ) → InOrder (kept_order d.props.partitioning d.props.ordering) (part outs j)
-dealt_order h n d ins outs a m j = go (eqb (parts d) 1) refl
+dealt_order h n d ins outs a m j = go (eqb (declared_partitions d) 1) refl
   where
-    go : (b : Bool) → eqb (parts d) 1 ≡ b → InOrder (cond b d.props.ordering []) (part outs j)
-    go true e = order_sub d.props.ordering (part outs j) (part ins 0) (a.order (m.count ∙ eqb-true (parts d) 1 e) j) (m.ordered 0)
+    go : (b : Bool) → eqb (declared_partitions d) 1 ≡ b → InOrder (cond b d.props.ordering []) (part outs j)
+    go true e = order_sub d.props.ordering (part outs j) (part ins 0) (a.order (m.count ∙ eqb-true (declared_partitions d) 1 e) j) (m.ordered 0)
     go false e = unordered (part outs j)
 
 pub repartition_meets : (h : Hashing) (cs : List ℕ) (n : ℕ) (d : Declared) (ins outs : List (List Row)) → Exchanged h cs n ins outs → Meets h d.props ins → Meets h (repartitioned (parting.Hash cs n) d).props outs
@@ -91,20 +91,20 @@ repartition_meets h cs n d ins outs a m = record {
 
 -- ---- UnionAll
 
-union_count : (h : Hashing) (ds : List Declared) (ps : List (List (List Row))) → AllMeet h ds ps → length (united_parts ps) ≡ sum (map (λ (d : Declared). parts d) ds)
+union_count : (h : Hashing) (ds : List Declared) (ps : List (List (List Row))) → AllMeet h ds ps → length (united_parts ps) ≡ sum (map (λ (d : Declared). declared_partitions d) ds)
 union_count h [] [] m = refl
 union_count h (d ∷ ds) (p ∷ ps) m =
     length-append p (united_parts ps)
     ∙ ap (λ (n : ℕ). n + length (united_parts ps)) m.0.count
-    ∙ ap (λ (n : ℕ). parts d + n) (union_count h ds ps m.1 ∙ sum_by_from (λ (x : ℕ). x) 0 (map (λ (d : Declared). parts d) ds) ∙ zero-add _)
-    ∙ sym (sum_by_from (λ (x : ℕ). x) (0 + parts d) (map (λ (d : Declared). parts d) ds) ∙ ap (λ (n : ℕ). n + sum_by (λ (x : ℕ). x) (map (λ (d : Declared). parts d) ds)) (zero-add (parts d)))
+    ∙ ap (λ (n : ℕ). declared_partitions d + n) (union_count h ds ps m.1 ∙ sum_by_from (λ (x : ℕ). x) 0 (map (λ (d : Declared). declared_partitions d) ds) ∙ zero-add _)
+    ∙ sym (sum_by_from (λ (x : ℕ). x) (0 + declared_partitions d) (map (λ (d : Declared). declared_partitions d) ds) ∙ ap (λ (n : ℕ). n + sum_by (λ (x : ℕ). x) (map (λ (d : Declared). declared_partitions d) ds)) (zero-add (declared_partitions d)))
 union_count h [] (p ∷ ps) m = absurd m
 union_count h (d ∷ ds) [] m = absurd m
 
 pub union_meets : (h : Hashing) (ds : List Declared) (ps : List (List (List Row))) → AllMeet h ds ps → Meets h (united ds).props (united_parts ps)
 union_meets h ds ps m = record {
-  count = union_count h ds ps m ∙ sym (single_parts (parting.Unknown (sum (map (λ (d : Declared). parts d) ds))));
-  hashed = λ j. each_all (part (united_parts ps) j) (λ r. single_hashed h (parting.Unknown (sum (map (λ (d : Declared). parts d) ds))) j r tt);
+  count = union_count h ds ps m ∙ sym (single_parts (parting.Unknown (sum (map (λ (d : Declared). declared_partitions d) ds))));
+  hashed = λ j. each_all (part (united_parts ps) j) (λ r. single_hashed h (parting.Unknown (sum (map (λ (d : Declared). declared_partitions d) ds))) j r tt);
   ordered = λ j. unordered (part (united_parts ps) j);
   same = λ j. no_pairs (part (united_parts ps) j);
   constant = λ i j. each_all (part (united_parts ps) i) (λ r. each_all (part (united_parts ps) j) (λ s. tt));
@@ -167,12 +167,12 @@ left_starts keys w ls rs s (inl a) = (a.0, a.1, a.2, a.5)
 left_starts keys w ls rs s (inr a) = (a.0, nulls w, a.1, a.2)
 
 module _ (h : Hashing) (keys : List (ℕ × ℕ)) (d : Declared) (lefts : List (List Row)) (sides : Sides h keys d lefts) (m : Meets h d.props lefts) where
-  starts_hashed : (j : ℕ) (s : Row) → Starts (part lefts j) s → Hashed h (or_single (parting.Hash (left_keys keys) (parts d))) j s
+  starts_hashed : (j : ℕ) (s : Row) → Starts (part lefts j) s → Hashed h (or_single (parting.Hash (left_keys keys) (declared_partitions d))) j s
   starts_hashed j s a =
-      single_hashed h (parting.Hash (left_keys keys) (parts d)) j s
-      (subst (λ (t : Row). h (cells_at (left_keys keys) t) % parts d ≡ j) (sym a.3)
-      (ap (λ (vs : List Value). h vs % parts d) (left_columns d.width a.0 a.1 (each_has (λ l. length l ≡ d.width) (part lefts j) a.0 (sides.wide j) a.2) (left_keys keys) sides.keys_in)
-      ∙ each_has (λ l. h (cells_at (left_keys keys) l) % parts d ≡ j) (part lefts j) a.0 (sides.places.place j) a.2))
+      single_hashed h (parting.Hash (left_keys keys) (declared_partitions d)) j s
+      (subst (λ (t : Row). h (cells_at (left_keys keys) t) % declared_partitions d ≡ j) (sym a.3)
+      (ap (λ (vs : List Value). h vs % declared_partitions d) (left_columns d.width a.0 a.1 (each_has (λ l. length l ≡ d.width) (part lefts j) a.0 (sides.wide j) a.2) (left_keys keys) sides.keys_in)
+      ∙ each_has (λ l. h (cells_at (left_keys keys) l) % declared_partitions d ≡ j) (part lefts j) a.0 (sides.places.place j) a.2))
 
   starts_same : (j : ℕ) (s : Row) → Starts (part lefts j) s → PairsHold d.props.same s
   starts_same j s a = subst (PairsHold d.props.same) (sym a.3) (left_pairs d.width a.0 a.1 (each_has (λ l. length l ≡ d.width) (part lefts j) a.0 (sides.wide j) a.2) d.props.same sides.pairs_in (each_has (PairsHold d.props.same) (part lefts j) a.0 (m.same j) a.2))
@@ -185,8 +185,8 @@ module _ (h : Hashing) (keys : List (ℕ × ℕ)) (d : Declared) (lefts : List (
 
   pub left_join_meets : (e : Declared) (rights outs : List (List Row)) → Joined (LeftRow keys e.width) lefts rights outs → Meets h (hash_joined Left keys d e).props outs
   left_join_meets e rights outs o = record {
-    count = o.count ∙ m.count ∙ sym (single_parts (parting.Hash (left_keys keys) (parts d)));
-    hashed = λ j. each_map {P = LeftRow keys e.width (part lefts j) (part rights j)} {Q = Hashed h (or_single (parting.Hash (left_keys keys) (parts d))) j} (part outs j) (λ s a. starts_hashed j s (left_starts keys e.width (part lefts j) (part rights j) s a)) (o.rows j);
+    count = o.count ∙ m.count ∙ sym (single_parts (parting.Hash (left_keys keys) (declared_partitions d)));
+    hashed = λ j. each_map {P = LeftRow keys e.width (part lefts j) (part rights j)} {Q = Hashed h (or_single (parting.Hash (left_keys keys) (declared_partitions d))) j} (part outs j) (λ s a. starts_hashed j s (left_starts keys e.width (part lefts j) (part rights j) s a)) (o.rows j);
     ordered = λ j. unordered (part outs j);
     same = λ j. each_map {P = LeftRow keys e.width (part lefts j) (part rights j)} {Q = PairsHold d.props.same} (part outs j) (λ s a. starts_same j s (left_starts keys e.width (part lefts j) (part rights j) s a)) (o.rows j);
     constant = λ i j. each_map {P = LeftRow keys e.width (part lefts i) (part rights i)} {Q = λ r. Each (Agree d.props.constants r) (part outs j)} (part outs i)
@@ -222,8 +222,8 @@ module _ (h : Hashing) (keys : List (ℕ × ℕ)) (d e : Declared) (lefts rights
 
   pub inner_join_meets : (outs : List (List Row)) → Joined (InnerRow keys) lefts rights outs → Meets h (hash_joined Inner keys d e).props outs
   inner_join_meets outs o = record {
-    count = o.count ∙ m.count ∙ sym (single_parts (parting.Hash (left_keys keys) (parts d)));
-    hashed = λ j. each_map {P = InnerRow keys (part lefts j) (part rights j)} {Q = Hashed h (or_single (parting.Hash (left_keys keys) (parts d))) j} (part outs j) (λ s a. starts_hashed h keys d lefts sides m j s (inner_starts (part lefts j) (part rights j) s a)) (o.rows j);
+    count = o.count ∙ m.count ∙ sym (single_parts (parting.Hash (left_keys keys) (declared_partitions d)));
+    hashed = λ j. each_map {P = InnerRow keys (part lefts j) (part rights j)} {Q = Hashed h (or_single (parting.Hash (left_keys keys) (declared_partitions d))) j} (part outs j) (λ s a. starts_hashed h keys d lefts sides m j s (inner_starts (part lefts j) (part rights j) s a)) (o.rows j);
     ordered = λ j. unordered (part outs j);
     same = λ j. each_map {P = InnerRow keys (part lefts j) (part rights j)} {Q = PairsHold (d.props.same ++ shifted d.width e.props.same ++ joined_pairs d.width keys)} (part outs j) (λ s a. inner_same j s a) (o.rows j);
     constant = λ i j. each_map {P = InnerRow keys (part lefts i) (part rights i)} {Q = λ r. Each (Agree (d.props.constants ++ map (λ (c : ℕ). d.width + c) e.props.constants) r) (part outs j)} (part outs i)

@@ -10,7 +10,7 @@ use Rattle.plan_props.specs.declared.properties.Partitioning.TheVariants as part
 use Rattle.plan_props.specs.Meets.{Row, Hashing, PairsHold, Agree, cells_at, Each, Hashed, part, Meets}
 use Rattle.plan_props.proofs.Sound.{each_map, each_all}
 use Rattle.physical_plan.specs.declared.properties.Declared.{Declared}
-use Rattle.physical_plan.specs.Properties.{or_single, parts, hash_joined, right_keys, shifted, shifted_columns}
+use Rattle.physical_plan.specs.Properties.{or_single, declared_partitions, hash_joined, right_keys, shifted, shifted_columns}
 use Rattle.node_laws.specs.NodeRows.{Holds, nulls, Joined}
 use Rattle.node_laws.specs.Rows.{RightRow, FullRow, RightSides}
 use Rattle.node_laws.proofs.Weavings.{each_has}
@@ -30,12 +30,12 @@ module _ (h : Hashing) (keys : List (ℕ × ℕ)) (d e : Declared) (lefts rights
   ends j s (inl a) = (a.0, a.1, a.3, each_has (λ l. length l ≡ d.width) (part lefts j) a.0 (sides.wide j) a.2, a.5)
   ends j s (inr a) = (nulls d.width, a.0, a.1, length-replicate d.width value.Null, a.2)
 
-  ends_hashed : (j : ℕ) (s : Row) → Ends d.width (part rights j) s → Hashed h (or_single (parting.Hash (shifted_columns d.width (right_keys keys)) (parts d))) j s
+  ends_hashed : (j : ℕ) (s : Row) → Ends d.width (part rights j) s → Hashed h (or_single (parting.Hash (shifted_columns d.width (right_keys keys)) (declared_partitions d))) j s
   ends_hashed j s a =
-      single_hashed h (parting.Hash (shifted_columns d.width (right_keys keys)) (parts d)) j s
-      (ap (λ (t : Row). h (cells_at (shifted_columns d.width (right_keys keys)) t) % parts d) a.4
-      ∙ ap (λ (vs : List Value). h vs % parts d) (columns_behind d.width a.0 a.1 a.3 (right_keys keys))
-      ∙ each_has (λ r. h (cells_at (right_keys keys) r) % parts d ≡ j) (part rights j) a.1 (sides.places.place j) a.2)
+      single_hashed h (parting.Hash (shifted_columns d.width (right_keys keys)) (declared_partitions d)) j s
+      (ap (λ (t : Row). h (cells_at (shifted_columns d.width (right_keys keys)) t) % declared_partitions d) a.4
+      ∙ ap (λ (vs : List Value). h vs % declared_partitions d) (columns_behind d.width a.0 a.1 a.3 (right_keys keys))
+      ∙ each_has (λ r. h (cells_at (right_keys keys) r) % declared_partitions d ≡ j) (part rights j) a.1 (sides.places.place j) a.2)
 
   ends_same : (j : ℕ) (s : Row) → Ends d.width (part rights j) s → PairsHold (shifted d.width e.props.same) s
   ends_same j s a = subst (PairsHold (shifted d.width e.props.same)) (sym a.4) (right_pairs d.width a.0 a.1 a.3 e.props.same (each_has (PairsHold e.props.same) (part rights j) a.1 (mr.same j) a.2))
@@ -48,8 +48,8 @@ module _ (h : Hashing) (keys : List (ℕ × ℕ)) (d e : Declared) (lefts rights
 
   pub right_meets : Meets h (hash_joined Right keys d e).props outs
   right_meets = record {
-    count = o.count ∙ m.count ∙ sym (single_parts (parting.Hash (shifted_columns d.width (right_keys keys)) (parts d)));
-    hashed = λ j. each_map {P = RightRow keys d.width (part lefts j) (part rights j)} {Q = Hashed h (or_single (parting.Hash (shifted_columns d.width (right_keys keys)) (parts d))) j} (part outs j) (λ s a. ends_hashed j s (ends j s a)) (o.rows j);
+    count = o.count ∙ m.count ∙ sym (single_parts (parting.Hash (shifted_columns d.width (right_keys keys)) (declared_partitions d)));
+    hashed = λ j. each_map {P = RightRow keys d.width (part lefts j) (part rights j)} {Q = Hashed h (or_single (parting.Hash (shifted_columns d.width (right_keys keys)) (declared_partitions d))) j} (part outs j) (λ s a. ends_hashed j s (ends j s a)) (o.rows j);
     ordered = λ j. unordered (part outs j);
     same = λ j. each_map {P = RightRow keys d.width (part lefts j) (part rights j)} {Q = PairsHold (shifted d.width e.props.same)} (part outs j) (λ s a. ends_same j s (ends j s a)) (o.rows j);
     constant = λ i j. each_map {P = RightRow keys d.width (part lefts i) (part rights i)} {Q = λ r. Each (Agree (shifted_columns d.width e.props.constants) r) (part outs j)} (part outs i)
@@ -59,8 +59,8 @@ module _ (h : Hashing) (keys : List (ℕ × ℕ)) (d e : Declared) (lefts rights
 
 pub full_meets : (h : Hashing) (keys : List (ℕ × ℕ)) (d e : Declared) (lefts rights outs : List (List Row)) → Meets h d.props lefts → Joined (FullRow keys d.width e.width) lefts rights outs → Meets h (hash_joined Full keys d e).props outs
 full_meets h keys d e lefts rights outs m o = record {
-  count = o.count ∙ m.count ∙ sym (single_parts (parting.Unknown (parts d)));
-  hashed = λ j. each_all (part outs j) (λ s. single_hashed h (parting.Unknown (parts d)) j s tt);
+  count = o.count ∙ m.count ∙ sym (single_parts (parting.Unknown (declared_partitions d)));
+  hashed = λ j. each_all (part outs j) (λ s. single_hashed h (parting.Unknown (declared_partitions d)) j s tt);
   ordered = λ j. unordered (part outs j);
   same = λ j. each_all (part outs j) (λ s. tt);
   constant = λ i j. each_all (part outs i) (λ s. each_all (part outs j) (λ t. tt));

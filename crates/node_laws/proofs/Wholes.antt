@@ -14,7 +14,7 @@ use Rattle.physical_plan.specs.declared.plan.Plan.TheOpen.{Plan-F}
 use Rattle.physical_plan.specs.declared.plan.Plan.TheViews.{roll-Plan}
 use Rattle.physical_plan.specs.declared.plan.Plan.TheFolds.{map-Plan, fold-roll-Plan}
 use Rattle.physical_plan.specs.declared.properties.Declared.{Declared}
-use Rattle.physical_plan.specs.Properties.{parts, scattered, filtered, projected, grouped, merged, repartitioned, hash_joined, united, first_width, place_in, kept_columns, item_columns, left_keys, right_keys, state_width, declared, declared_of, props}
+use Rattle.physical_plan.specs.Properties.{declared_partitions, scattered, filtered, projected, grouped, merged, repartitioned, hash_joined, united, first_width, place_in, kept_columns, item_columns, left_keys, right_keys, state_width, declared, declared_of, props}
 use Rattle.physical_plan.specs.Facts.{fact_of}
 use Rattle.physical_plan.specs.Everywhere.{kids}
 use Rattle.physical_plan.specs.Needs.{group_need, spread_needs, order_needs}
@@ -102,7 +102,7 @@ group_stands h keys more d outs m w = record {
 -- ---- joins
 
 module _ (h : Hashing) (n : ℕ) (keys : List (ℕ × ℕ)) (d e : Declared) (lefts rights : List (List Row)) (s : Stands h d lefts) (t : Stands h e rights) (pl : Places h (left_keys keys) n lefts) (pr : Places h (right_keys keys) n rights) (kl : Within d.width (left_keys keys)) (kr : Within e.width (right_keys keys)) where
-  as_many : n ≡ parts d
+  as_many : n ≡ declared_partitions d
   as_many = sym pl.count ∙ s.meets.count
 
   left_sides : Sides h keys d lefts

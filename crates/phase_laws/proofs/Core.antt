@@ -17,14 +17,14 @@ use Rattle.scalar_exprs.specs.Truth.{is_null}
 use Rattle.scalar_exprs.specs.Kinds.{argument_kind}
 use Rattle.scalar_exprs.specs.Agg.{agg_rows, argument, present, lesser, greater, least, greatest}
 use Rattle.logical_plan.specs.Items.{Cells, concat}
-use Rattle.phase_laws.specs.States.{State, state_of, joined, all_joined, cells_of, read, finished, best}
+use Rattle.phase_laws.specs.States.{State, state_of, merged, all_merged, cells_of, read, finished, best}
 use Rattle.physical_plan.specs.Properties.{state_width}
 use Rattle.phase_laws.specs.Phases.{states_of, answers, state_kinds, states_kinds, told_kind}
 use Rattle.content_laws.specs.Bags.{SameBag}
 use Rattle.content_laws.proofs.Identity.{cells, cells_exact}
 use Rattle.content_laws.proofs.Weights.{bag-map}
 use Rattle.phase_laws.proofs.Bags.{Each, each-filter, bag_each, fold_bag}
-use Rattle.phase_laws.proofs.States.{Ties, joined_swap, state-append, read-cells_of, drop-cells_of, agg-finished}
+use Rattle.phase_laws.proofs.States.{Ties, merged_swap, state-append, read-cells_of, drop-cells_of, agg-finished}
 use Rattle.phase_laws.proofs.Exact.{of_column, null_of, exact_cell, cell_fits}
 
 -- ---- the best of values is one of them
@@ -95,7 +95,7 @@ piece calls kinds [] = []
 piece calls kinds (r ∷ rs) = states_of calls kinds (r ∷ rs) ∷ []
 
 abbrev pub step : AggCall → State → Cells → State
-step c s row = joined c s (read c row)
+step c s row = merged c s (read c row)
 
 pub map-append : {A B : Type 0} (h : A → B) (xs ys : List A) → map h (xs ++ ys) ≡ map h xs ++ map h ys
 map-append h [] ys = refl
@@ -105,7 +105,7 @@ fold_pieces : (c : AggCall) (calls : List AggCall) (kinds : List Kind) (xs : Lis
 fold_pieces c calls kinds xs [] = ap (state_of c) (sym (append-nil xs))
 fold_pieces c calls kinds xs ([] ∷ groups) = fold_pieces c calls kinds xs groups
 fold_pieces c calls kinds xs ((r ∷ rs) ∷ groups) =
-    ap (λ s. fold (step c) (joined c (state_of c xs) s) (flat_map (piece (c ∷ calls) kinds) groups)) (read-cells_of c (argument_kind c kinds) (map (argument c) (r ∷ rs)) (states_of calls kinds (r ∷ rs)))
+    ap (λ s. fold (step c) (merged c (state_of c xs) s) (flat_map (piece (c ∷ calls) kinds) groups)) (read-cells_of c (argument_kind c kinds) (map (argument c) (r ∷ rs)) (states_of calls kinds (r ∷ rs)))
     ∙ (ap (λ s. fold (step c) s (flat_map (piece (c ∷ calls) kinds) groups)) (state-append c xs (map (argument c) (r ∷ rs)))
     ∙ (fold_pieces c calls kinds (xs ++ map (argument c) (r ∷ rs)) groups
     ∙ ap (state_of c) (append_assoc xs (map (argument c) (r ∷ rs)) (map (argument c) (concat groups)) ∙ ap (λ zs. xs ++ zs) (sym (map-append (argument c) (r ∷ rs) (concat groups))))))
@@ -144,7 +144,7 @@ drop_kinds (call.Avg c) k rest = refl
 pub answers_are : (calls : List AggCall) (kinds : List Kind) (groups : List (List Cells)) (left : List Cells) → EachOf kinds groups → SameBag (flat_map (piece calls kinds) groups) left → answers calls (states_kinds calls kinds) left ≡ map (agg_rows kinds (concat groups)) calls
 answers_are [] kinds groups left h same = refl
 answers_are (c ∷ calls) kinds groups left h same =
-    ap (λ x. x ∷ answers calls (drop (state_width c) (states_kinds (c ∷ calls) kinds)) (map (drop (state_width c)) left)) (told_finished c (argument_kind c kinds) (states_kinds calls kinds) (all_joined c (map (read c) left)) ∙ head)
+    ap (λ x. x ∷ answers calls (drop (state_width c) (states_kinds (c ∷ calls) kinds)) (map (drop (state_width c)) left)) (told_finished c (argument_kind c kinds) (states_kinds calls kinds) (all_merged c (map (read c) left)) ∙ head)
     ∙ ap (λ xs. agg_rows kinds (concat groups) c ∷ xs) (ap (λ ks. answers calls ks (map (drop (state_width c)) left)) (drop_kinds c (argument_kind c kinds) (states_kinds calls kinds)) ∙ answers_are calls kinds groups (map (drop (state_width c)) left) h rest)
   where
     rest : SameBag (flat_map (piece calls kinds) groups) (map (drop (state_width c)) left)
@@ -153,10 +153,10 @@ answers_are (c ∷ calls) kinds groups left h same =
     fit : Each (call_fits c (argument_kind c kinds)) (flat_map (piece (c ∷ calls) kinds) groups)
     fit = pieces_fit c calls kinds groups h
 
-    head : finished c (argument_kind c kinds) (all_joined c (map (read c) left)) ≡ agg_rows kinds (concat groups) c
+    head : finished c (argument_kind c kinds) (all_merged c (map (read c) left)) ≡ agg_rows kinds (concat groups) c
     head = ap (finished c (argument_kind c kinds))
-        (fold-map (joined c) (read c) (state_of c []) left
-        ∙ (sym (fold_bag cells cells_exact (step c) (call_fits c (argument_kind c kinds)) (λ s a b e f. joined_swap c s (read c a) (read c b) (ties_read c (argument_kind c kinds) a b e f)) (state_of c []) (flat_map (piece (c ∷ calls) kinds) groups) left fit (bag_each (call_fits c (argument_kind c kinds)) (flat_map (piece (c ∷ calls) kinds) groups) left same fit) same)
+        (fold-map (merged c) (read c) (state_of c []) left
+        ∙ (sym (fold_bag cells cells_exact (step c) (call_fits c (argument_kind c kinds)) (λ s a b e f. merged_swap c s (read c a) (read c b) (ties_read c (argument_kind c kinds) a b e f)) (state_of c []) (flat_map (piece (c ∷ calls) kinds) groups) left fit (bag_each (call_fits c (argument_kind c kinds)) (flat_map (piece (c ∷ calls) kinds) groups) left same fit) same)
         ∙ fold_pieces c calls kinds [] groups))
         ∙ sym (agg-finished c (argument_kind c kinds) (map (argument c) (concat groups)))
 
@@ -164,7 +164,7 @@ answers_are (c ∷ calls) kinds groups left h same =
 
 -- a state with one row more
 abbrev pub one_step : AggCall → State → Cells → State
-one_step c s row = joined c s (state_of c (argument c row ∷ []))
+one_step c s row = merged c s (state_of c (argument c row ∷ []))
 
 -- what a fold over rows keeps is the state of all
 pub fold_rows : (c : AggCall) (xs : List Value) (rows : List Cells) → fold (one_step c) (state_of c xs) rows ≡ state_of c (xs ++ map (argument c) rows)
@@ -184,6 +184,6 @@ agg_order kinds c xs ys h same =
     agg-finished c (argument_kind c kinds) (map (argument c) xs)
     ∙ (ap (finished c (argument_kind c kinds))
     (sym (fold_rows c [] xs)
-    ∙ (fold_bag cells cells_exact (one_step c) (are_of kinds) (λ s a b e f. joined_swap c s (state_of c (argument c a ∷ [])) (state_of c (argument c b ∷ [])) (ties_one c kinds a b e f)) (state_of c []) xs ys h (bag_each (are_of kinds) xs ys same h) same
+    ∙ (fold_bag cells cells_exact (one_step c) (are_of kinds) (λ s a b e f. merged_swap c s (state_of c (argument c a ∷ [])) (state_of c (argument c b ∷ [])) (ties_one c kinds a b e f)) (state_of c []) xs ys h (bag_each (are_of kinds) xs ys same h) same
     ∙ fold_rows c [] ys))
     ∙ sym (agg-finished c (argument_kind c kinds) (map (argument c) ys)))

@@ -13,7 +13,7 @@ use Rattle.dfx_value.specs.declared.op.AggCall.{AggCall}
 use Rattle.dfx_value.specs.declared.op.AggCall.TheVariants as call
 use Rattle.scalar_exprs.specs.Groups.{key_list, same_keys}
 use Rattle.logical_plan.specs.Items.{Cells, Item, rows, faults, of_faults, all_values, as_item}
-use Rattle.phase_laws.specs.States.{state_of, joined, all_joined, read, finished}
+use Rattle.phase_laws.specs.States.{state_of, merged, all_merged, read, finished}
 use Rattle.physical_plan.specs.Properties.{state_width}
 use Rattle.phase_laws.specs.Phases.{AreApart, grouped, told_kind, answers, final_item, one_final, final}
 use Rattle.content_laws.specs.Bags.{SameBag, Alike, together}
@@ -21,7 +21,7 @@ use Rattle.content_laws.proofs.Identity.{cells, cells_exact}
 use Rattle.content_laws.proofs.Weights.{bag-filter, bag-map, bag_any, sum_by-map}
 use Rattle.content_laws.proofs.Items.{bag_rows, bag_faults, together_both, together_faults}
 use Rattle.phase_laws.proofs.Bags.{Each, each_more, each-filter, bag_each, fold_bag}
-use Rattle.phase_laws.proofs.States.{joined_swap}
+use Rattle.phase_laws.proofs.States.{merged_swap}
 use Rattle.phase_laws.proofs.Exact.{cell_fits, key_fits, key_list_fits, keys_exact}
 use Rattle.phase_laws.proofs.Groups.{of_keys, grouped_same}
 use Rattle.phase_laws.proofs.Core.{call_fits, ties_read, step}
@@ -50,15 +50,15 @@ pub answers_order : (calls : List AggCall) (ks : List Kind) (xs ys : List Cells)
 answers_order [] ks xs ys h same = refl
 answers_order (c ∷ calls) ks xs ys h same =
     ap (λ s. finished c (told_kind c ks) s ∷ answers calls (drop (state_width c) ks) (map (drop (state_width c)) xs)) head
-    ∙ ap (λ os. finished c (told_kind c ks) (all_joined c (map (read c) ys)) ∷ os) (answers_order calls (drop (state_width c) ks) (map (drop (state_width c)) xs) (map (drop (state_width c)) ys) (left_fits (state_width c) ks xs h) (bag-map (drop (state_width c)) xs ys same))
+    ∙ ap (λ os. finished c (told_kind c ks) (all_merged c (map (read c) ys)) ∷ os) (answers_order calls (drop (state_width c) ks) (map (drop (state_width c)) xs) (map (drop (state_width c)) ys) (left_fits (state_width c) ks xs h) (bag-map (drop (state_width c)) xs ys same))
   where
     fit : Each (call_fits c (slice_get ks 0)) xs
     fit = each_more (are_of ks) (call_fits c (slice_get ks 0)) (λ row e. first_fits c ks row e) xs h
 
-    head : all_joined c (map (read c) xs) ≡ all_joined c (map (read c) ys)
-    head = fold-map (joined c) (read c) (state_of c []) xs
-        ∙ (fold_bag cells cells_exact (step c) (call_fits c (slice_get ks 0)) (λ s a b e f. joined_swap c s (read c a) (read c b) (ties_read c (slice_get ks 0) a b e f)) (state_of c []) xs ys fit (bag_each (call_fits c (slice_get ks 0)) xs ys same fit) same
-        ∙ sym (fold-map (joined c) (read c) (state_of c []) ys))
+    head : all_merged c (map (read c) xs) ≡ all_merged c (map (read c) ys)
+    head = fold-map (merged c) (read c) (state_of c []) xs
+        ∙ (fold_bag cells cells_exact (step c) (call_fits c (slice_get ks 0)) (λ s a b e f. merged_swap c s (read c a) (read c b) (ties_read c (slice_get ks 0) a b e f)) (state_of c []) xs ys fit (bag_each (call_fits c (slice_get ks 0)) xs ys same fit) same
+        ∙ sym (fold-map (merged c) (read c) (state_of c []) ys))
 
 item_order : (n : ℕ) (calls : List AggCall) (ks : List Kind) (k : Cells) (xs ys : List Cells) → Each (are_of ks) xs → SameBag xs ys → final_item n calls ks k xs ≡ final_item n calls ks k ys
 item_order n calls ks k xs ys h same = ap (λ os. as_item (all_values os >>= λ vs. Ok (k ++ vs))) (answers_order calls (drop n ks) (map (drop n) xs) (map (drop n) ys) (left_fits n ks xs h) (bag-map (drop n) xs ys same))

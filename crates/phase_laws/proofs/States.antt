@@ -21,7 +21,7 @@ use Rattle.dfx_value.proofs.OrderLemmas.{value_cmp_total}
 use Rattle.scalar_exprs.specs.Truth.{is_null}
 use Rattle.scalar_exprs.specs.Agg.{agg, counted, summed, averaged, is_over, total, from_first, present, gains, losses, above, below, unscaled, lesser, greater, least, greatest}
 use Rattle.phase_laws.proofs.Bags.{Each}
-use Rattle.phase_laws.specs.States.{Totals, State, too_many, capped, past, within, added, better, best, counting, summing, state_of, chosen, joined, cells_of, read, finished, count_answer, sum_answer, mean_answer}
+use Rattle.phase_laws.specs.States.{Totals, State, too_many, capped, past, within, added, better, best, counting, summing, state_of, chosen, merged, cells_of, read, finished, count_answer, sum_answer, mean_answer}
 use Rattle.physical_plan.specs.Properties.{state_width}
 use Rattle.phase_laws.specs.States.State.{Sums, Best}
 
@@ -297,7 +297,7 @@ summed_cons v vs = by (is_null v)
     by false = ap Sums (sym (added_capped 1 (gains (v ∷ [])) (losses (v ∷ [])) (length (present vs)) (gains (present vs)) (losses (present vs)) false false
         ∙ capped_args _ _ _ _ _ _ _ _ (omega arith) (sym (sum_by-append (λ v. above (unscaled v)) (v ∷ []) (present vs))) (sym (sum_by-append (λ v. below (unscaled v)) (v ∷ []) (present vs))) refl))
 
-pub state_cons : (c : AggCall) (v : Value) (vs : List Value) → state_of c (v ∷ vs) ≡ joined c (state_of c (v ∷ [])) (state_of c vs)
+pub state_cons : (c : AggCall) (v : Value) (vs : List Value) → state_of c (v ∷ vs) ≡ merged c (state_of c (v ∷ [])) (state_of c vs)
 state_cons call.CountAll v vs = ap Sums (sym (added_capped 1 0 0 (length vs) 0 0 false false ∙ capped_args _ _ _ _ _ _ _ _ (omega arith) refl refl refl))
 state_cons (call.Count c) v vs = counted_cons v vs
 state_cons (call.Sum c) v vs = summed_cons v vs
@@ -327,15 +327,15 @@ Ties (Best w) (Best u) = value_cmp w u ≡ Equal → w ≡ u
 Ties (Sums s) _ = Unit {0}
 Ties (Best w) (Sums s) = Unit {0}
 
-pub joined_swap : (c : AggCall) (s t u : State) → Ties t u → joined c (joined c s t) u ≡ joined c (joined c s u) t
-joined_swap c (Sums s) (Sums t) (Sums u) h = ap Sums (added_swap s t u)
-joined_swap c (Sums s) (Sums t) (Best u) h = refl
-joined_swap c (Sums s) (Best t) (Sums u) h = refl
-joined_swap c (Sums s) (Best t) (Best u) h = refl
-joined_swap c (Best s) (Sums t) (Sums u) h = refl
-joined_swap c (Best s) (Sums t) (Best u) h = refl
-joined_swap c (Best s) (Best t) (Sums u) h = refl
-joined_swap c (Best s) (Best t) (Best u) h = ap Best (chosen_swap c s t u h)
+pub merged_swap : (c : AggCall) (s t u : State) → Ties t u → merged c (merged c s t) u ≡ merged c (merged c s u) t
+merged_swap c (Sums s) (Sums t) (Sums u) h = ap Sums (added_swap s t u)
+merged_swap c (Sums s) (Sums t) (Best u) h = refl
+merged_swap c (Sums s) (Best t) (Sums u) h = refl
+merged_swap c (Sums s) (Best t) (Best u) h = refl
+merged_swap c (Best s) (Sums t) (Sums u) h = refl
+merged_swap c (Best s) (Sums t) (Best u) h = refl
+merged_swap c (Best s) (Best t) (Sums u) h = refl
+merged_swap c (Best s) (Best t) (Best u) h = ap Best (chosen_swap c s t u h)
 
 -- of the same sort of state
 abbrev pub AreAlike : State → State → Type 0
@@ -344,13 +344,13 @@ AreAlike (Best v) (Best w) = Unit {0}
 AreAlike (Sums s) (Best w) = ⊥
 AreAlike (Best v) (Sums t) = ⊥
 
-pub joined_assoc : (c : AggCall) (s t u : State) → AreAlike t u → joined c (joined c s t) u ≡ joined c s (joined c t u)
-joined_assoc c (Sums s) (Sums t) (Sums u) h = ap Sums (added_assoc s t u)
-joined_assoc c (Best s) (Best t) (Best u) h = ap Best (chosen_pick c s t u)
-joined_assoc c (Sums s) (Best t) (Best u) h = refl
-joined_assoc c (Best s) (Sums t) (Sums u) h = refl
-joined_assoc c s (Sums t) (Best u) h = absurd h
-joined_assoc c s (Best t) (Sums u) h = absurd h
+pub merged_assoc : (c : AggCall) (s t u : State) → AreAlike t u → merged c (merged c s t) u ≡ merged c s (merged c t u)
+merged_assoc c (Sums s) (Sums t) (Sums u) h = ap Sums (added_assoc s t u)
+merged_assoc c (Best s) (Best t) (Best u) h = ap Best (chosen_pick c s t u)
+merged_assoc c (Sums s) (Best t) (Best u) h = refl
+merged_assoc c (Best s) (Sums t) (Sums u) h = refl
+merged_assoc c s (Sums t) (Best u) h = absurd h
+merged_assoc c s (Best t) (Sums u) h = absurd h
 
 pub one_sort : (c : AggCall) (xs ys : List Value) → AreAlike (state_of c xs) (state_of c ys)
 one_sort call.CountAll xs ys = tt
@@ -363,7 +363,7 @@ one_sort (call.Avg c) xs ys = tt
 nothing_counted : (n p m : ℕ) → Sums (added (capped 0 0 0 false) (capped n p m false)) ≡ Sums (capped n p m false)
 nothing_counted n p m = ap Sums (added_capped 0 0 0 n p m false false ∙ capped_args _ _ _ _ _ _ _ _ (omega arith) (omega arith) (omega arith) refl)
 
-pub state_none : (c : AggCall) (ys : List Value) → joined c (state_of c []) (state_of c ys) ≡ state_of c ys
+pub state_none : (c : AggCall) (ys : List Value) → merged c (state_of c []) (state_of c ys) ≡ state_of c ys
 state_none call.CountAll ys = nothing_counted (length ys) 0 0
 state_none (call.Count c) ys = nothing_counted (length (present ys)) 0 0
 state_none (call.Sum c) ys = nothing_counted (length (present ys)) (gains (present ys)) (losses (present ys))
@@ -372,12 +372,12 @@ state_none (call.Max c) ys = refl
 state_none (call.Avg c) ys = nothing_counted (length (present ys)) (gains (present ys)) (losses (present ys))
 
 -- what is kept of values and of others, joined, is what is kept of all
-pub state-append : (c : AggCall) (xs ys : List Value) → joined c (state_of c xs) (state_of c ys) ≡ state_of c (xs ++ ys)
+pub state-append : (c : AggCall) (xs ys : List Value) → merged c (state_of c xs) (state_of c ys) ≡ state_of c (xs ++ ys)
 state-append c [] ys = state_none c ys
 state-append c (x ∷ xs) ys =
-    ap (λ s. joined c s (state_of c ys)) (state_cons c x xs)
-    ∙ (joined_assoc c (state_of c (x ∷ [])) (state_of c xs) (state_of c ys) (one_sort c xs ys)
-    ∙ (ap (joined c (state_of c (x ∷ []))) (state-append c xs ys) ∙ sym (state_cons c x (xs ++ ys))))
+    ap (λ s. merged c s (state_of c ys)) (state_cons c x xs)
+    ∙ (merged_assoc c (state_of c (x ∷ [])) (state_of c xs) (state_of c ys) (one_sort c xs ys)
+    ∙ (ap (merged c (state_of c (x ∷ []))) (state-append c xs ys) ∙ sym (state_cons c x (xs ++ ys))))
 
 -- ---- cells and answers
 

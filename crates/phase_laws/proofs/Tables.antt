@@ -13,7 +13,7 @@ use Rattle.scalar_exprs.specs.Agg.{argument}
 use Rattle.scalar_exprs.specs.Groups.{same_keys, key_list, firsts}
 use Rattle.scalar_exprs.specs.Kinds.{argument_kind}
 use Rattle.logical_plan.specs.Items.{Cells, all_values, as_item}
-use Rattle.phase_laws.specs.States.{State, state_of, joined, read, cells_of, finished}
+use Rattle.phase_laws.specs.States.{State, state_of, merged, read, cells_of, finished}
 use Rattle.physical_plan.specs.Properties.{state_width}
 use Rattle.phase_laws.specs.Phases.{grouped, states_of, phase_row, phase_rows, told_kind, answers, final_item}
 use Rattle.phase_laws.specs.Tables.{table_step, table, starts, with_row, all_cells, with_cells, all_finished, finished_item}
@@ -197,16 +197,16 @@ first_table columns calls kinds rows = from_table (key_list columns) (starts cal
 
 -- ---- the second phase
 
-cells_apart : (c : AggCall) (calls : List AggCall) (s : State) (ss : List State) (g : List Cells) → fold (with_cells (c ∷ calls)) (s ∷ ss) g ≡ fold (λ s row. joined c s (read c row)) s g ∷ fold (with_cells calls) ss (map (drop (state_width c)) g)
+cells_apart : (c : AggCall) (calls : List AggCall) (s : State) (ss : List State) (g : List Cells) → fold (with_cells (c ∷ calls)) (s ∷ ss) g ≡ fold (λ s row. merged c s (read c row)) s g ∷ fold (with_cells calls) ss (map (drop (state_width c)) g)
 cells_apart c calls s ss [] = refl
-cells_apart c calls s ss (r ∷ rs) = cells_apart c calls (joined c s (read c r)) (with_cells calls ss (drop (state_width c) r)) rs
+cells_apart c calls s ss (r ∷ rs) = cells_apart c calls (merged c s (read c r)) (with_cells calls ss (drop (state_width c) r)) rs
 
 finished_are : (calls : List AggCall) (kinds : List Kind) (g : List Cells) → all_finished calls kinds (fold (with_cells calls) (starts calls) g) ≡ answers calls kinds g
 finished_are [] kinds g = refl
 finished_are (c ∷ calls) kinds g =
     ap (all_finished (c ∷ calls) kinds) (cells_apart c calls (state_of c []) (starts calls) g)
-    ∙ (ap (λ s. finished c (told_kind c kinds) s ∷ all_finished calls (drop (state_width c) kinds) (fold (with_cells calls) (starts calls) (map (drop (state_width c)) g))) (sym (fold-map (joined c) (read c) (state_of c []) g))
-    ∙ ap (λ os. finished c (told_kind c kinds) (fold (joined c) (state_of c []) (map (read c) g)) ∷ os) (finished_are calls (drop (state_width c) kinds) (map (drop (state_width c)) g)))
+    ∙ (ap (λ s. finished c (told_kind c kinds) s ∷ all_finished calls (drop (state_width c) kinds) (fold (with_cells calls) (starts calls) (map (drop (state_width c)) g))) (sym (fold-map (merged c) (read c) (state_of c []) g))
+    ∙ ap (λ os. finished c (told_kind c kinds) (fold (merged c) (state_of c []) (map (read c) g)) ∷ os) (finished_are calls (drop (state_width c) kinds) (map (drop (state_width c)) g)))
 
 pub one_finished : (n : ℕ) (calls : List AggCall) (kinds : List Kind) (k : Cells) (g : List Cells) → finished_item n calls kinds (k, fold (λ ss row. with_cells calls ss (drop n row)) (starts calls) g) ≡ final_item n calls kinds k g
 one_finished n calls kinds k g = ap (λ os. as_item (all_values os >>= λ vs. Ok (k ++ vs))) (ap (all_finished calls (drop n kinds)) (sym (fold-map (with_cells calls) (drop n) (starts calls) g)) ∙ finished_are calls (drop n kinds) (map (drop n) g))

@@ -5,19 +5,18 @@ use Rattle.std.specs.List.{list_any, AllPass}
 use Rattle.dfx_value.specs.Checked.{◌>>=◌}
 use Rattle.dfx_value.specs.declared.fault.ItemFault.{ItemFault}
 use Rattle.dfx_value.specs.declared.kind.Kind.{Kind}
-use Rattle.dfx_value.specs.declared.kind.Kind.TheVariants as kind
 use Rattle.dfx_value.specs.declared.op.AggCall.{AggCall}
 use Rattle.dfx_value.specs.declared.op.AggCall.TheVariants as call
 use Rattle.scalar_exprs.specs.Functions.{Outcome}
 use Rattle.scalar_exprs.specs.Agg.{argument}
-use Rattle.scalar_exprs.specs.Kinds.{argument_kind, scale_of}
+use Rattle.scalar_exprs.specs.Kinds.{argument_kind}
 use Rattle.scalar_exprs.specs.Groups.{key_list, same_keys, firsts}
-use Rattle.logical_plan.specs.Body.{kind_or_text, key_kinds}
 use Rattle.logical_plan.specs.Groups.{alike}
 use Rattle.logical_plan.specs.Items.{Cells, Item, rows, faults, of_rows, of_faults, all_values, as_item, concat}
 use Rattle.physical_plan.specs.Numbers.{numbers}
-use Rattle.phase_laws.specs.States.{state_of, all_joined, cells_of, read, finished}
+use Rattle.phase_laws.specs.States.{state_of, all_merged, cells_of, read, finished}
 use Rattle.physical_plan.specs.Properties.{state_width}
+pub use Rattle.plan_kinds.specs.Phases.{state_kinds, states_kinds, phase_kinds}
 
 -- something for each list of keys among rows, from it and from the rows that have it, in the order
 -- of first rows
@@ -45,24 +44,6 @@ abbrev pub phase : List ℕ → List AggCall → List Kind → List Item → Lis
 phase columns calls kinds items =
     of_faults (faults items) ++ of_rows (phase_rows columns calls kinds (rows items))
 
--- ---- the kinds of those rows
-
--- the kinds of the state columns of a call, whose argument has this kind
-abbrev pub state_kinds : AggCall → Option Kind → List Kind
-state_kinds call.CountAll k = kind.Int ∷ kind.Bool ∷ []
-state_kinds (call.Count c) k = kind.Int ∷ kind.Bool ∷ []
-state_kinds (call.Sum c) k = kind.Int ∷ kind.Dec 38 (scale_of k) ∷ kind.Dec 38 (scale_of k) ∷ kind.Bool ∷ []
-state_kinds (call.Min c) k = kind_or_text k ∷ []
-state_kinds (call.Max c) k = kind_or_text k ∷ []
-state_kinds (call.Avg c) k = kind.Int ∷ kind.Dec 38 (scale_of k) ∷ kind.Dec 38 (scale_of k) ∷ kind.Bool ∷ []
-
-abbrev pub states_kinds : List AggCall → List Kind → List Kind
-states_kinds [] kinds = []
-states_kinds (c ∷ calls) kinds = state_kinds c (argument_kind c kinds) ++ states_kinds calls kinds
-
-abbrev pub phase_kinds : List ℕ → List AggCall → List Kind → List Kind
-phase_kinds columns calls kinds = key_kinds kinds columns ++ states_kinds calls kinds
-
 -- ---- the second phase, which knows the kinds of those rows alone
 
 -- the kind that a call's state columns tell of its argument: its scale, where the answer needs one
@@ -76,7 +57,7 @@ told_kind _ kinds = None
 abbrev pub answers : List AggCall → List Kind → List Cells → List Outcome
 answers [] kinds group = []
 answers (c ∷ calls) kinds group =
-    finished c (told_kind c kinds) (all_joined c (map (read c) group))
+    finished c (told_kind c kinds) (all_merged c (map (read c) group))
     ∷ answers calls (drop (state_width c) kinds) (map (drop (state_width c)) group)
 
 -- the item of a list of keys, from its rows of so many keys and then states

@@ -70,14 +70,14 @@ chosen (call.Max c) = better greater
 chosen _ = better lesser
 
 -- the state of the values of two
-abbrev pub joined : AggCall → State → State → State
-joined c (Sums s) (Sums t) = Sums (added s t)
-joined c (Best v) (Best w) = Best (chosen c v w)
-joined c (Sums s) (Best w) = Sums s
-joined c (Best v) (Sums t) = Best v
+abbrev pub merged : AggCall → State → State → State
+merged c (Sums s) (Sums t) = Sums (added s t)
+merged c (Best v) (Best w) = Best (chosen c v w)
+merged c (Sums s) (Best w) = Sums s
+merged c (Best v) (Sums t) = Best v
 
-abbrev pub all_joined : AggCall → List State → State
-all_joined c = fold (joined c) (state_of c [])
+abbrev pub all_merged : AggCall → List State → State
+all_merged c = fold (merged c) (state_of c [])
 
 -- ---- cells
 

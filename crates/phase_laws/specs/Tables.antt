@@ -8,7 +8,7 @@ use Rattle.scalar_exprs.specs.Functions.{Outcome}
 use Rattle.scalar_exprs.specs.Kinds.{argument_kind}
 use Rattle.logical_plan.specs.Items.{Cells, Item, all_values, as_item}
 use Rattle.key_table.specs.Entries.{upsert}
-use Rattle.phase_laws.specs.States.{State, state_of, joined, read, cells_of, finished}
+use Rattle.phase_laws.specs.States.{State, state_of, merged, read, cells_of, finished}
 use Rattle.physical_plan.specs.Properties.{state_width}
 use Rattle.phase_laws.specs.Phases.{told_kind}
 
@@ -28,7 +28,7 @@ starts (c ∷ calls) = state_of c [] ∷ starts calls
 -- ---- the first phase: states with one row more, and their cells
 
 abbrev pub with_row : List AggCall → List State → Cells → List State
-with_row (c ∷ calls) (s ∷ ss) row = joined c s (state_of c (argument c row ∷ [])) ∷ with_row calls ss row
+with_row (c ∷ calls) (s ∷ ss) row = merged c s (state_of c (argument c row ∷ [])) ∷ with_row calls ss row
 with_row _ _ row = []
 
 abbrev pub all_cells : List AggCall → List Kind → List State → Cells
@@ -43,7 +43,7 @@ state_row calls kinds e = e.0 ++ all_cells calls kinds e.1
 
 abbrev pub with_cells : List AggCall → List State → Cells → List State
 with_cells (c ∷ calls) (s ∷ ss) left =
-    joined c s (read c left) ∷ with_cells calls ss (drop (state_width c) left)
+    merged c s (read c left) ∷ with_cells calls ss (drop (state_width c) left)
 with_cells _ _ left = []
 
 -- behind so many keys

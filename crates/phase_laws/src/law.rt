@@ -11,7 +11,7 @@ ghost use Rattle.logical_plan.specs.Groups.{aggregated, distinct};
 ghost use Rattle.dfx_value.specs.declared.value.Value.{Value};
 ghost use Rattle.scalar_exprs.specs.Agg.{agg};
 ghost use Rattle.scalar_exprs.specs.Groups.{key_list};
-ghost use Rattle.phase_laws.specs.States.{State, state_of, joined, read, cells_of, finished};
+ghost use Rattle.phase_laws.specs.States.{State, state_of, merged, read, cells_of, finished};
 ghost use Rattle.phase_laws.specs.Tables.{table, starts, with_row, state_row, with_cells_behind, finished_item};
 ghost use Rattle.phase_laws.specs.Phases.{phase_rows, grouped, final_item, phase, phase_kinds, final, second_phase, AreApart, segments_of};
 ghost use Rattle.plan_props.specs.Meets.{Hashing, Gathers, Delivers};
@@ -93,11 +93,11 @@ pub fn parts_law()
 /// (`finished`).
 pub fn states_law()
     ensures updated { (call : AggCall) (values : List Value) (value : Value)
-        → joined call (state_of call values) (state_of call (value ∷ []))
+        → merged call (state_of call values) (state_of call (value ∷ []))
         ≡ state_of call (values ++ value ∷ []) }
     ensures combined { (call : AggCall) (kind : Option Kind) (values others : List Value)
         (rest : Cells)
-        → joined call (state_of call values)
+        → merged call (state_of call values)
         (read call (cells_of call kind (state_of call others) ++ rest))
         ≡ state_of call (values ++ others) }
     ensures finished { (call : AggCall) (kind : Option Kind) (values : List Value)

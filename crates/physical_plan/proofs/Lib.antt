@@ -1,3 +1,4 @@
+pub mod Folds
 pub mod Nodes
 pub mod ExprFacts
 pub mod Everywhere

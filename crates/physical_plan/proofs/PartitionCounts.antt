@@ -13,7 +13,7 @@ use Rattle.plan_props.specs.Satisfies.{partition_count}
 use Rattle.physical_plan.specs.declared.properties.Declared.{Declared}
 use Rattle.physical_plan.specs.declared.plan.Plan.{Plan}
 use Rattle.physical_plan.specs.declared.plan.Plan.TheVariants.{Scan, Filter, Project, PartialGroup, FinalGroup, HashJoin, Sort, Merge, Coalesce, Repartition, UnionAll, Limit}
-use Rattle.physical_plan.specs.Properties.{Renaming, or_single, all_renamed, hashed_or_unknown, partitioning_renamed, join_partitioning, parts, counts, declared_of, partitions, place_in, item_columns, kept_columns}
+use Rattle.physical_plan.specs.Properties.{Renaming, or_single, all_renamed, hashed_or_unknown, partitioning_renamed, join_partitioning, declared_partitions, counts, declared_of, partitions, place_in, item_columns, kept_columns}
 use Rattle.physical_plan.proofs.Nodes.{declared-Scan, declared-Filter, declared-Project, declared-PartialGroup, declared-FinalGroup, declared-HashJoin, declared-Sort, declared-Merge, declared-Coalesce, declared-Repartition, declared-UnionAll, declared-Limit}
 
 single_count : (p : Partitioning) → partition_count (or_single p) ≡ partition_count p
@@ -44,7 +44,7 @@ in_all [] = refl
 in_all (p ∷ ps) = ap (λ (ns : List ℕ). partitions p ∷ ns) (in_all ps)
 
 abbrev of : Declared → ℕ
-of d = parts d
+of d = declared_partitions d
 
 pub partitions-Scan : (table : ℕ) (kinds : List Kind) (files : ℕ) (n : ℕ) → partitions (Scan table kinds files n) ≡ n
 partitions-Scan table kinds files n = ap of (declared-Scan table kinds files n) ∙ single_count (parting.Unknown n)

@@ -1,9 +1,9 @@
 -- Meaning: a test at every node of a plan, and the plan's tree without exchanges and sorts.
 use Rattle.std.specs.Prelude.{Bool, true, ◌&&◌, List, [], ◌∷◌}
 use Rattle.physical_plan.specs.declared.plan.Plan.{Plan}
-use Rattle.physical_plan.specs.declared.plan.Plan.TheVariants as plan
 use Rattle.physical_plan.specs.declared.plan.Plan.TheOpen.{Plan-F}
 use Rattle.physical_plan.specs.declared.plan.Plan.TheFolds.{fold-Plan, para-Plan, map-Plan}
+use Rattle.physical_plan.specs.Rebuilt.{rebuilt}
 
 abbrev pub kids : {A : Type 0} → Plan-F A → List A
 kids (Plan-F.Scan table kinds files partitions) = []
@@ -36,18 +36,11 @@ everywhere test = para-Plan Bool (node_holds test)
 -- ---- the tree without exchanges and sorts
 
 abbrev pub bare_node : Plan-F Plan → Plan
-bare_node (Plan-F.Scan table kinds files partitions) = plan.Scan table kinds files partitions
-bare_node (Plan-F.Filter input test) = plan.Filter input test
-bare_node (Plan-F.Project input items) = plan.Project input items
-bare_node (Plan-F.PartialGroup input keys calls) = plan.PartialGroup input keys calls
-bare_node (Plan-F.FinalGroup input keys calls) = plan.FinalGroup input keys calls
-bare_node (Plan-F.HashJoin kind left right keys rest) = plan.HashJoin kind left right keys rest
 bare_node (Plan-F.Sort input keys) = input
 bare_node (Plan-F.Merge input keys) = input
 bare_node (Plan-F.Coalesce input) = input
 bare_node (Plan-F.Repartition input to) = input
-bare_node (Plan-F.UnionAll inputs) = plan.UnionAll inputs
-bare_node (Plan-F.Limit input skip fetch) = plan.Limit input skip fetch
+bare_node z = rebuilt z
 
 unfoldable pub erased : Plan → Plan
 erased = fold-Plan Plan bare_node

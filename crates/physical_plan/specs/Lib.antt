@@ -3,3 +3,4 @@ pub mod Properties
 pub mod Everywhere
 pub mod Needs
 pub mod Numbers
+pub mod Rebuilt

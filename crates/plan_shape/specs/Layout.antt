@@ -73,8 +73,8 @@ merging k below = opened (merger k (length below.parts) ∷ []) (map (λ (c : �
 abbrev pub laid_beside : Laid → Laid → Laid
 laid_beside l r = laid (map (consuming false) (beside l.parts r.parts)) (l.stages ++ r.stages)
 
-abbrev pub joined : Laid → Laying → ℕ → Laid
-joined l right k = laid_beside l (right (k + length l.stages))
+abbrev pub lay_both : Laid → Laying → ℕ → Laid
+lay_both l right k = laid_beside l (right (k + length l.stages))
 
 abbrev pub laid_after : Laid → Laid → Laid
 laid_after l r = laid (l.parts ++ r.parts) (l.stages ++ r.stages)
@@ -93,7 +93,7 @@ lay (Plan-F.Filter input test) k = input k
 lay (Plan-F.Project input items) k = input k
 lay (Plan-F.PartialGroup input keys calls) k = with_consumer true (input k)
 lay (Plan-F.FinalGroup input keys calls) k = with_consumer false (input k)
-lay (Plan-F.HashJoin kind left right keys rest) k = joined (left k) right k
+lay (Plan-F.HashJoin kind left right keys rest) k = lay_both (left k) right k
 lay (Plan-F.Sort input keys) k = with_consumer true (input k)
 lay (Plan-F.Merge input keys) k = merging k (input (k + 1))
 lay (Plan-F.Coalesce input) k = coalesced k (input (k + 1))

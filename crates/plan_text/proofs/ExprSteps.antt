@@ -8,7 +8,7 @@ use Rattle.scalar_exprs.specs.declared.expr.Expr.TheOpen.{Expr-F}
 use Rattle.scalar_exprs.specs.declared.expr.Expr.TheVariants.{Column, Const, Not, Neg, IsNull, Binary, Case, Coalesce, Cast, Abs, Length, rolls-Column, rolls-Const, rolls-Not, rolls-Neg, rolls-IsNull, rolls-Binary, rolls-Case, rolls-Coalesce, rolls-Cast, rolls-Abs, rolls-Length}
 use Rattle.scalar_exprs.specs.declared.expr.Expr.TheFolds.{fold-roll-Expr, map-Expr}
 use Rattle.scalar_exprs.specs.declared.expr.Expr.TheViews.{roll-Expr}
-use Rattle.plan_text.specs.ListText.{joined, joined_after}
+use Rattle.plan_text.specs.ListText.{separated, separated_after}
 use Rattle.plan_text.specs.ExprText.{expr_text, level_text, column_text, constant_text, call_of, op_text, kind_text, arm_text, arms_text}
 
 at_level : (e : Expr) (z : Expr-F Expr) → roll-Expr z ≡ e → expr_text e ≡ level_text (map-Expr Expr (List ℕ) expr_text z)
@@ -33,7 +33,7 @@ text-IsNull a = at_level (IsNull a) (Expr-F.IsNull a) (rolls-IsNull a)
 pub text-Binary : (op : Op) (a b : Expr) → expr_text (Binary op a b) ≡ codes "(" ++ (expr_text a ++ (codes " " ++ (op_text op ++ (codes " " ++ (expr_text b ++ codes ")")))))
 text-Binary op a b = at_level (Binary op a b) (Expr-F.Binary op a b) (rolls-Binary op a b)
 
-arms_joined : (arms : List (Expr × Expr)) (last before : List ℕ) → joined_after before (map arm_text (map (λ arm. (expr_text arm.0, expr_text arm.1)) arms) ++ last ∷ []) ≡ before ++ (arms_text arms ++ last)
+arms_joined : (arms : List (Expr × Expr)) (last before : List ℕ) → separated_after before (map arm_text (map (λ arm. (expr_text arm.0, expr_text arm.1)) arms) ++ last ∷ []) ≡ before ++ (arms_text arms ++ last)
 arms_joined [] last before = ap (λ (s : List ℕ). before ++ s) (append-nil last)
 arms_joined (arm ∷ arms) last before =
     ap (λ (s : List ℕ). before ++ (arm_text (expr_text arm.0, expr_text arm.1) ++ s)) (arms_joined arms last (codes ", "))
@@ -45,7 +45,7 @@ text-Case arms other =
     ∙ ap (λ (s : List ℕ). codes "CASE(" ++ (s ++ codes ")")) (arms_joined arms (codes "ELSE " ++ expr_text other) [])
     ∙ ap (λ (s : List ℕ). codes "CASE(" ++ s) (append_assoc (arms_text arms) (codes "ELSE " ++ expr_text other) (codes ")"))
 
-pub text-Coalesce : (parts : List Expr) → expr_text (Coalesce parts) ≡ codes "COALESCE(" ++ (joined (map expr_text parts) ++ codes ")")
+pub text-Coalesce : (parts : List Expr) → expr_text (Coalesce parts) ≡ codes "COALESCE(" ++ (separated (map expr_text parts) ++ codes ")")
 text-Coalesce parts = at_level (Coalesce parts) (Expr-F.Coalesce parts) (rolls-Coalesce parts)
 
 pub text-Cast : (a : Expr) (kind : Kind) → expr_text (Cast a kind) ≡ codes "CAST(" ++ (expr_text a ++ (codes " AS " ++ (kind_text kind ++ codes ")")))
@@ -77,10 +77,10 @@ case_pieces t u v w e other q arms ps is left right one two three =
     ∙ (simp append_assoc)
     ∙ ap (λ (s : List ℕ). t ++ s) (sym (ap expr_text (is ∙ ap (λ (x : List (Expr × Expr)). Case x other) (sym left) ∙ ap (λ (x : Expr). Case ps x) (sym right)) ∙ text-Case ps q))
 
-pub coalesce_pieces : (t u v w : List ℕ) (e : Expr) (parts ps : List Expr) → e ≡ Coalesce parts → ps ≡ parts → u ≡ t ++ codes "COALESCE(" → v ≡ u ++ joined (map expr_text ps) → w ≡ v ++ codes ")" → w ≡ t ++ expr_text e
+pub coalesce_pieces : (t u v w : List ℕ) (e : Expr) (parts ps : List Expr) → e ≡ Coalesce parts → ps ≡ parts → u ≡ t ++ codes "COALESCE(" → v ≡ u ++ separated (map expr_text ps) → w ≡ v ++ codes ")" → w ≡ t ++ expr_text e
 coalesce_pieces t u v w e parts ps is same one two three =
     three
-    ∙ ap (λ (s : List ℕ). s ++ codes ")") (two ∙ ap (λ (s : List ℕ). s ++ joined (map expr_text ps)) one)
+    ∙ ap (λ (s : List ℕ). s ++ codes ")") (two ∙ ap (λ (s : List ℕ). s ++ separated (map expr_text ps)) one)
     ∙ (simp append_assoc)
     ∙ ap (λ (s : List ℕ). t ++ s) (sym (ap expr_text (is ∙ ap Coalesce (sym same)) ∙ text-Coalesce ps))
 

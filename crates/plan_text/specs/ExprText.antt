@@ -11,7 +11,7 @@ use Rattle.dfx_value.specs.declared.value.Value.TheVariants as value
 use Rattle.scalar_exprs.specs.declared.expr.Expr.{Expr}
 use Rattle.scalar_exprs.specs.declared.expr.Expr.TheOpen.{Expr-F}
 use Rattle.scalar_exprs.specs.declared.expr.Expr.TheFolds.{fold-Expr}
-use Rattle.plan_text.specs.ListText.{joined}
+use Rattle.plan_text.specs.ListText.{separated}
 
 -- a column: a number sign and the column's number, from 0
 abbrev pub column_text : ℕ → List ℕ
@@ -75,8 +75,8 @@ level_text (Expr-F.IsNull a) = call_of (codes "ISNULL") a
 level_text (Expr-F.Binary op a b) =
     codes "(" ++ (a ++ (codes " " ++ (op_text op ++ (codes " " ++ (b ++ codes ")")))))
 level_text (Expr-F.Case arms other) =
-    call_of (codes "CASE") (joined (map arm_text arms ++ (codes "ELSE " ++ other) ∷ []))
-level_text (Expr-F.Coalesce parts) = call_of (codes "COALESCE") (joined parts)
+    call_of (codes "CASE") (separated (map arm_text arms ++ (codes "ELSE " ++ other) ∷ []))
+level_text (Expr-F.Coalesce parts) = call_of (codes "COALESCE") (separated parts)
 level_text (Expr-F.Cast a kind) = call_of (codes "CAST") (a ++ (codes " AS " ++ kind_text kind))
 level_text (Expr-F.Abs a) = call_of (codes "ABS") a
 level_text (Expr-F.Length a) = call_of (codes "LENGTH") a

@@ -3,7 +3,7 @@
 ghost use Rattle.std.specs.Prelude.{◌≡◌, ◌++◌, map, OnOk, codes};
 ghost use Rattle.std.specs.String.{string_bytes};
 ghost use Rattle.plan_text.specs.ExprText as spec;
-ghost use Rattle.plan_text.specs.ListText.{joined};
+ghost use Rattle.plan_text.specs.ListText.{separated};
 
 use crate::constants::{push_column, push_constant, push_kind, push_op};
 use dfx_value::NoMemory;
@@ -24,7 +24,7 @@ fn push_between(text: &mut String, before: &str, expr: &Expr, after: &str) -> Re
 #[cycle(exprs)]
 pub fn push_exprs(text: &mut String, exprs: &[Expr]) -> Result<(), NoMemory>
     ensures { OnOk result (string_bytes text.new
-        ≡ string_bytes text.old ++ joined (map spec.expr_text exprs.now)) }
+        ≡ string_bytes text.old ++ separated (map spec.expr_text exprs.now)) }
 {
     let mut separator = "";
     for expr in exprs {

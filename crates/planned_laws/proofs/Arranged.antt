@@ -10,7 +10,7 @@ use Rattle.physical_plan.specs.declared.plan.Plan.TheOpen.{Plan-F}
 use Rattle.physical_plan.specs.declared.plan.Plan.TheFolds.{map-Plan}
 use Rattle.physical_plan.specs.declared.plan.Plan.TheVariants.{Scan, outs-Scan, rolls-Scan}
 use Rattle.physical_plan.specs.Properties.{props, left_keys, right_keys}
-use Rattle.enforce_sort.specs.Arrange.{sorted, enforce_sorting}
+use Rattle.enforce_sort.specs.Arrange.{with_sort, enforce_sorting}
 use Rattle.physical_plan.specs.Everywhere.{Test}
 use Rattle.physical_plan.specs.Needs.{group_need, spread_needs, order_needs}
 use Rattle.planned_laws.specs.Finished.{lean, on_scan, robin_on, on_scans}
@@ -63,7 +63,7 @@ lean_arrange n = record {
   same = λ z s t k. lean_stays n z s t;
   sort = λ p keys t k e. ap not e;
   below = λ p keys t k e. ap not e;
-  merge = λ p keys t k. ap (λ (m : ℕ). not (eqb m 1)) (parts_like (sorted keys (enforce_sorting p)) p (sorted_like keys (enforce_sorting p) ∙ like p)) ∙ t;
+  merge = λ p keys t k. ap (λ (m : ℕ). not (eqb m 1)) (parts_like (with_sort keys (enforce_sorting p)) p (sorted_like keys (enforce_sorting p) ∙ like p)) ∙ t;
 }
 
 scan_stays : (p : Plan) (z : Plan-F Plan) → out-Plan p ≡ z → on_scan z ≡ true → on_scan (out-Plan (enforce_sorting p)) ≡ true

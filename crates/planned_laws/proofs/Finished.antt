@@ -12,7 +12,7 @@ use Rattle.physical_plan.specs.declared.plan.Plan.TheOpen.{Plan-F}
 use Rattle.physical_plan.specs.declared.plan.Plan.TheViews.{roll-Plan, roll-out-Plan}
 use Rattle.physical_plan.specs.declared.plan.Plan.TheFolds.{map-Plan}
 use Rattle.physical_plan.specs.declared.plan.Plan.TheVariants.{Sort, Merge, Limit, outs-Sort, outs-Limit}
-use Rattle.physical_plan.specs.Properties.{props, partitions, parts}
+use Rattle.physical_plan.specs.Properties.{props, partitions, declared_partitions}
 use Rattle.physical_plan.specs.Everywhere.{everywhere, all_true, kids}
 use Rattle.physical_plan.specs.Needs.{spread_needs, order_needs}
 use Rattle.planned_laws.specs.Finished.{limited_order, no_limit, LimitAtRoot, have_parts, lean, inputs_serve, on_scans, IsFinished}
@@ -26,7 +26,7 @@ use Rattle.planned_laws.specs.Spread.{lean_exchanges, IsSpread}
 use Rattle.enforce_dist.proofs.Nodes.{distributed-Sort, distributed-Limit}
 use Rattle.planned_laws.proofs.Spreading.{Spreads, gathered_single}
 use Rattle.planned_laws.proofs.Exchanges.{held, counted, is_spread}
-use Rattle.enforce_sort.specs.Arrange.{sorted, enforce_sorting}
+use Rattle.enforce_sort.specs.Arrange.{with_sort, enforce_sorting}
 use Rattle.enforce_sort.proofs.Nodes.{arranged-Sort, arranged-Merge, arranged-Limit}
 use Rattle.planned_laws.proofs.Likes.{like, parts_like}
 use Rattle.planned_laws.proofs.Sorting.{stays, Arranges, arranges, order_itself, sorting_keeps, sorted_by as in_order}
@@ -93,7 +93,7 @@ top_order b k ks = go (eqb (partitions (Sort b (k ∷ ks))) 1)
     merge_in : satisfies_order (props (enforce_sorting (Merge (Sort b (k ∷ ks)) (k ∷ ks)))) (k ∷ ks) ≡ true
     merge_in =
         ap (λ (p : Plan). satisfies_order (props p) (k ∷ ks)) (arranged-Merge (Sort b (k ∷ ks)) (k ∷ ks))
-        ∙ ap (λ (d : Declared). satisfies_order d.props (k ∷ ks)) (declared-Merge (sorted (k ∷ ks) (enforce_sorting (Sort b (k ∷ ks)))) (k ∷ ks))
+        ∙ ap (λ (d : Declared). satisfies_order d.props (k ∷ ks)) (declared-Merge (with_sort (k ∷ ks) (enforce_sorting (Sort b (k ∷ ks)))) (k ∷ ks))
         ∙ order_itself _
 
     go : (t : Bool) → satisfies_order (props (enforce_sorting (cond t (Sort b (k ∷ ks)) (gathered_by (props (Sort b (k ∷ ks))).ordering (Sort b (k ∷ ks)))))) (k ∷ ks) ≡ true
@@ -149,7 +149,7 @@ limit_finish n p skip fetch =
     ∙ arranged-Limit (gathered (distributed n p false)) skip fetch
   where
     one : eqb (partitions (Limit (gathered (distributed n p false)) skip fetch)) 1 ≡ true
-    one = eq-eqb _ _ (ap (λ (d : Declared). parts d) (declared-Limit (gathered (distributed n p false)) skip fetch) ∙ gathered_single (distributed n p false))
+    one = eq-eqb _ _ (ap (λ (d : Declared). declared_partitions d) (declared-Limit (gathered (distributed n p false)) skip fetch) ∙ gathered_single (distributed n p false))
 
     stays_one : gathered (Limit (gathered (distributed n p false)) skip fetch) ≡ Limit (gathered (distributed n p false)) skip fetch
     stays_one = ap (λ (t : Bool). cond t (Limit (gathered (distributed n p false)) skip fetch) (gathered_by (props (Limit (gathered (distributed n p false)) skip fetch)).ordering (Limit (gathered (distributed n p false)) skip fetch))) one

@@ -20,7 +20,7 @@ use Rattle.plan_props.specs.declared.properties.Distribution.{Distribution}
 use Rattle.plan_props.specs.declared.properties.Distribution.TheVariants as need
 use Rattle.enforce_dist.specs.Distribute.{Below, gathered, gathered_by, hashed, grouped_input, join_input, spread, distributed, enforce_distribution}
 use Rattle.enforce_dist.proofs.Nodes.{distributed-Scan, distributed-Filter, distributed-Project, distributed-PartialGroup, distributed-FinalGroup, distributed-HashJoin, distributed-Sort, distributed-Merge, distributed-Coalesce, distributed-Repartition, distributed-UnionAll, distributed-Limit}
-use Rattle.enforce_sort.specs.Arrange.{sorted, enforce_sorting}
+use Rattle.enforce_sort.specs.Arrange.{with_sort, enforce_sorting}
 use Rattle.enforce_sort.proofs.Nodes.{arranged-Scan, arranged-Filter, arranged-Project, arranged-PartialGroup, arranged-FinalGroup, arranged-HashJoin, arranged-Sort, arranged-Merge, arranged-Coalesce, arranged-Repartition, arranged-UnionAll, arranged-Limit}
 use Rattle.planned_laws.proofs.Orders.{place, wide, union_wide, group_parts, final_parts, join_parts}
 
@@ -55,7 +55,7 @@ ranged_spread n t k f c above = go (above && nat_lt c n)
     go true = ranged-Repartition (length k) (Scan t k f c) (parting.RoundRobin n) refl (ranged-Scan t k f c)
     go false = ranged-Scan t k f c
 
-ranged_sorted : (w : ℕ) (keys : List SortKey) (p : Plan) → are_below w (key_columns keys) ≡ true → Ranged w p → Ranged w (sorted keys p)
+ranged_sorted : (w : ℕ) (keys : List SortKey) (p : Plan) → are_below w (key_columns keys) ≡ true → Ranged w p → Ranged w (with_sort keys p)
 ranged_sorted w keys p h r = go (satisfies_order (props p) keys)
   where
     go : (b : Bool) → Ranged w (cond b p (Sort p keys))
@@ -143,7 +143,7 @@ stay_step (Plan-F.HashJoin kind x y keys rest) = subst Stays (sym (rolls-HashJoi
 stay_step (Plan-F.Sort x keys) = subst Stays (sym (rolls-Sort x.0 keys)) (λ e. let a = parts-Sort in_range x.0 keys e in
     place _ _ _ _ (ap wide (declared-Sort x.0 keys)) (arranged-Sort x.0 keys) (ranged_sorted (width x.0) keys (enforce_sorting x.0) a.0 (x.1 a.1)))
 stay_step (Plan-F.Merge x keys) = subst Stays (sym (rolls-Merge x.0 keys)) (λ e. let a = parts-Merge in_range x.0 keys e in
-    place _ _ _ _ (ap wide (declared-Merge x.0 keys)) (arranged-Merge x.0 keys) (ranged-Merge (width x.0) (sorted keys (enforce_sorting x.0)) keys a.0 (ranged_sorted (width x.0) keys (enforce_sorting x.0) a.0 (x.1 a.1))))
+    place _ _ _ _ (ap wide (declared-Merge x.0 keys)) (arranged-Merge x.0 keys) (ranged-Merge (width x.0) (with_sort keys (enforce_sorting x.0)) keys a.0 (ranged_sorted (width x.0) keys (enforce_sorting x.0) a.0 (x.1 a.1))))
 stay_step (Plan-F.Coalesce x) = subst Stays (sym (rolls-Coalesce x.0)) (λ e. let a = parts-Coalesce in_range x.0 e in
     place _ _ _ _ (ap wide (declared-Coalesce x.0)) (arranged-Coalesce x.0) (ranged-Coalesce (width x.0) (enforce_sorting x.0) (x.1 a.1)))
 stay_step (Plan-F.Repartition x to) = subst Stays (sym (rolls-Repartition x.0 to)) (λ e. let a = parts-Repartition in_range x.0 to e in

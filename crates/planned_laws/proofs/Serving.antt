@@ -19,7 +19,7 @@ use Rattle.physical_plan.specs.Needs.{group_need}
 use Rattle.physical_plan.proofs.Everywhere.{both_true, and_parts, parts-Sort}
 use Rattle.enforce_dist.specs.Distribute.{Below, gathered, gathered_by, hashed, grouped_input, join_input, distributed}
 use Rattle.enforce_dist.proofs.Nodes.{distributed-Scan, distributed-Filter, distributed-Project, distributed-PartialGroup, distributed-FinalGroup, distributed-HashJoin, distributed-Sort, distributed-Merge, distributed-Coalesce, distributed-Repartition, distributed-UnionAll, distributed-Limit}
-use Rattle.enforce_sort.specs.Arrange.{sorted, enforce_sorting}
+use Rattle.enforce_sort.specs.Arrange.{with_sort, enforce_sorting}
 use Rattle.enforce_sort.proofs.Nodes.{arranged-Scan, arranged-Filter, arranged-Project, arranged-PartialGroup, arranged-FinalGroup, arranged-HashJoin, arranged-Sort, arranged-Merge, arranged-Coalesce, arranged-Repartition, arranged-UnionAll, arranged-Limit}
 use Rattle.planned_laws.specs.Finished.{asks_hash, exchange_serves, serves_node, serves, all_serve, inputs_serve}
 use Rattle.planned_laws.specs.Plain.{plain_node, plain_child, plain}
@@ -205,7 +205,7 @@ module _ (n : ℕ) where
 
 -- ---- once sorts are put in and dropped
 
-serves_sorted : (keys : List SortKey) (p : Plan) (d : Distribution) → serves (sorted keys p) d ≡ serves p d
+serves_sorted : (keys : List SortKey) (p : Plan) (d : Distribution) → serves (with_sort keys p) d ≡ serves p d
 serves_sorted keys p d = go (satisfies_order (props p) keys)
   where
     go : (t : Bool) → serves (cond t p (Sort p keys)) d ≡ serves p d
@@ -232,7 +232,7 @@ stays_step (Plan-F.PartialGroup x keys calls) = subst Stays (sym (rolls-PartialG
 stays_step (Plan-F.FinalGroup x keys calls) = subst Stays (sym (rolls-FinalGroup x.0 keys calls)) (λ d. ap (λ (q : Plan). serves q d) (arranged-FinalGroup x.0 keys calls) ∙ serves_as _ _ d (rolls-FinalGroup (enforce_sorting x.0) keys calls) ∙ sym (serves_as _ _ d (rolls-FinalGroup x.0 keys calls)))
 stays_step (Plan-F.HashJoin kind x y keys rest) = subst Stays (sym (rolls-HashJoin kind x.0 y.0 keys rest)) (λ d. ap (λ (q : Plan). serves q d) (arranged-HashJoin kind x.0 y.0 keys rest) ∙ serves_as _ _ d (rolls-HashJoin kind (enforce_sorting x.0) (enforce_sorting y.0) keys rest) ∙ sym (serves_as _ _ d (rolls-HashJoin kind x.0 y.0 keys rest)))
 stays_step (Plan-F.Sort x keys) = subst Stays (sym (rolls-Sort x.0 keys)) (λ d. ap (λ (q : Plan). serves q d) (arranged-Sort x.0 keys) ∙ serves_sorted keys (enforce_sorting x.0) d ∙ x.1 d ∙ sym (serves_sort x.0 keys d))
-stays_step (Plan-F.Merge x keys) = subst Stays (sym (rolls-Merge x.0 keys)) (λ d. ap (λ (q : Plan). serves q d) (arranged-Merge x.0 keys) ∙ serves_as _ _ d (rolls-Merge (sorted keys (enforce_sorting x.0)) keys) ∙ sym (serves_as _ _ d (rolls-Merge x.0 keys)))
+stays_step (Plan-F.Merge x keys) = subst Stays (sym (rolls-Merge x.0 keys)) (λ d. ap (λ (q : Plan). serves q d) (arranged-Merge x.0 keys) ∙ serves_as _ _ d (rolls-Merge (with_sort keys (enforce_sorting x.0)) keys) ∙ sym (serves_as _ _ d (rolls-Merge x.0 keys)))
 stays_step (Plan-F.Coalesce x) = subst Stays (sym (rolls-Coalesce x.0)) (λ d. ap (λ (q : Plan). serves q d) (arranged-Coalesce x.0) ∙ serves_as _ _ d (rolls-Coalesce (enforce_sorting x.0)) ∙ sym (serves_as _ _ d (rolls-Coalesce x.0)))
 stays_step (Plan-F.Repartition x to) = subst Stays (sym (rolls-Repartition x.0 to)) (λ d. ap (λ (q : Plan). serves q d) (arranged-Repartition x.0 to) ∙ serves_as _ _ d (rolls-Repartition (enforce_sorting x.0) to) ∙ exchange_like d x.0 to ∙ sym (serves_as _ _ d (rolls-Repartition x.0 to)))
 stays_step (Plan-F.UnionAll xs) = subst Stays (sym (rolls-UnionAll (map (λ (k : Stay_known). k.0) xs))) (λ d. ap (λ (q : Plan). serves q d) (arranged-UnionAll (map (λ (k : Stay_known). k.0) xs)) ∙ serves_as _ _ d (rolls-UnionAll (map enforce_sorting (map (λ (k : Stay_known). k.0) xs))) ∙ sym (serves_as _ _ d (rolls-UnionAll (map (λ (k : Stay_known). k.0) xs))))

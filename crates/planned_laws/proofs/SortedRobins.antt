@@ -11,7 +11,7 @@ use Rattle.physical_plan.specs.declared.plan.Plan.TheViews.{roll-Plan}
 use Rattle.physical_plan.specs.declared.plan.Plan.TheFolds.{map-Plan, ind-Plan}
 use Rattle.physical_plan.specs.declared.plan.Plan.TheVariants.{Scan, Sort, rolls-Scan, rolls-Filter, rolls-Project, rolls-PartialGroup, rolls-FinalGroup, rolls-HashJoin, rolls-Sort, rolls-Merge, rolls-Coalesce, rolls-Repartition, rolls-UnionAll, rolls-Limit}
 use Rattle.physical_plan.specs.Properties.{props}
-use Rattle.enforce_sort.specs.Arrange.{sorted, enforce_sorting}
+use Rattle.enforce_sort.specs.Arrange.{with_sort, enforce_sorting}
 use Rattle.physical_plan.specs.Everywhere.{everywhere, all_true}
 use Rattle.planned_laws.specs.Finished.{on_scan, on_scans, robin_on, is_robin, concat, Wanting, found}
 use Rattle.enforce_sort.proofs.Nodes.{arranged-Scan, arranged-Filter, arranged-Project, arranged-PartialGroup, arranged-FinalGroup, arranged-HashJoin, arranged-Sort, arranged-Merge, arranged-Coalesce, arranged-Repartition, arranged-UnionAll, arranged-Limit}
@@ -19,7 +19,7 @@ use Rattle.physical_plan.proofs.Everywhere.{and_parts, parts-Filter, parts-Proje
 use Rattle.planned_laws.proofs.Wantings.{found-Filter, found-Project, found-PartialGroup, found-FinalGroup, found-HashJoin, found-Sort, found-Merge, found-Coalesce, found-Repartition, found-UnionAll, found-Limit}
 use Rattle.planned_laws.proofs.Tops.{made}
 
-sorted_found : (keys : List SortKey) (p : Plan) → found (sorted keys p) false ≡ found p false
+sorted_found : (keys : List SortKey) (p : Plan) → found (with_sort keys p) false ≡ found p false
 sorted_found keys p = go (satisfies_order (props p) keys)
   where
     go : (b : Bool) → found (cond b p (Sort p keys)) false ≡ found p false
@@ -63,7 +63,7 @@ stay_step (Plan-F.FinalGroup x keys calls) = subst Stays (sym (rolls-FinalGroup 
 stay_step (Plan-F.Coalesce x) = subst Stays (sym (rolls-Coalesce x.0)) (λ e. let a = parts-Coalesce on_scans x.0 e in ap (λ (p : Plan). found p false) (arranged-Coalesce x.0) ∙ found-Coalesce (enforce_sorting x.0) false ∙ x.1 a.1 ∙ sym (found-Coalesce x.0 false))
 stay_step (Plan-F.Limit x skip fetch) = subst Stays (sym (rolls-Limit x.0 skip fetch)) (λ e. let a = parts-Limit on_scans x.0 skip fetch e in ap (λ (p : Plan). found p false) (arranged-Limit x.0 skip fetch) ∙ found-Limit (enforce_sorting x.0) skip fetch false ∙ x.1 a.1 ∙ sym (found-Limit x.0 skip fetch false))
 stay_step (Plan-F.Sort x keys) = subst Stays (sym (rolls-Sort x.0 keys)) (λ e. let a = parts-Sort on_scans x.0 keys e in ap (λ (p : Plan). found p false) (arranged-Sort x.0 keys) ∙ sorted_found keys (enforce_sorting x.0) ∙ x.1 a.1 ∙ sym (found-Sort x.0 keys false))
-stay_step (Plan-F.Merge x keys) = subst Stays (sym (rolls-Merge x.0 keys)) (λ e. let a = parts-Merge on_scans x.0 keys e in ap (λ (p : Plan). found p false) (arranged-Merge x.0 keys) ∙ found-Merge (sorted keys (enforce_sorting x.0)) keys false ∙ sorted_found keys (enforce_sorting x.0) ∙ x.1 a.1 ∙ sym (found-Merge x.0 keys false))
+stay_step (Plan-F.Merge x keys) = subst Stays (sym (rolls-Merge x.0 keys)) (λ e. let a = parts-Merge on_scans x.0 keys e in ap (λ (p : Plan). found p false) (arranged-Merge x.0 keys) ∙ found-Merge (with_sort keys (enforce_sorting x.0)) keys false ∙ sorted_found keys (enforce_sorting x.0) ∙ x.1 a.1 ∙ sym (found-Merge x.0 keys false))
 stay_step (Plan-F.HashJoin kind x y keys rest) = subst Stays (sym (rolls-HashJoin kind x.0 y.0 keys rest)) (λ e. let a = parts-HashJoin on_scans kind x.0 y.0 keys rest e in ap (λ (p : Plan). found p false) (arranged-HashJoin kind x.0 y.0 keys rest) ∙ found-HashJoin kind (enforce_sorting x.0) (enforce_sorting y.0) keys rest false ∙ ap (λ (bs : List Bool). bs ++ found (enforce_sorting y.0) false) (x.1 a.1) ∙ ap (λ (bs : List Bool). found x.0 false ++ bs) (y.1 a.2) ∙ sym (found-HashJoin kind x.0 y.0 keys rest false))
 stay_step (Plan-F.Repartition x to) = subst Stays (sym (rolls-Repartition x.0 to)) (λ e. let a = parts-Repartition on_scans x.0 to e in ap (λ (p : Plan). found p false) (arranged-Repartition x.0 to) ∙ found-Repartition (enforce_sorting x.0) to false ∙ robin_same x.0 to a.0 (x.1 a.1) ∙ sym (found-Repartition x.0 to false))
 stay_step (Plan-F.UnionAll xs) = subst Stays (sym (rolls-UnionAll (kepts xs))) (λ e. let a = parts-UnionAll on_scans (kepts xs) e in ap (λ (p : Plan). found p false) (arranged-UnionAll (kepts xs)) ∙ found-UnionAll (map enforce_sorting (kepts xs)) false ∙ all_stay xs a.1 ∙ sym (found-UnionAll (kepts xs) false))

@@ -11,7 +11,7 @@ use Rattle.physical_plan.specs.declared.plan.Plan.TheFolds.{map-Plan, ind-Plan}
 use Rattle.physical_plan.specs.declared.plan.Plan.TheVariants.{Filter, Project, PartialGroup, FinalGroup, HashJoin, Sort, UnionAll, Limit, rolls-Scan, rolls-Filter, rolls-Project, rolls-PartialGroup, rolls-FinalGroup, rolls-HashJoin, rolls-Sort, rolls-Merge, rolls-Coalesce, rolls-Repartition, rolls-UnionAll, rolls-Limit}
 use Rattle.physical_plan.specs.declared.properties.Declared.{Declared}
 use Rattle.physical_plan.specs.Properties.{props, partitions}
-use Rattle.enforce_sort.specs.Arrange.{sorted, enforce_sorting}
+use Rattle.enforce_sort.specs.Arrange.{with_sort, enforce_sorting}
 use Rattle.physical_plan.specs.Everywhere.{Test, everywhere, all_true, kids, erased}
 use Rattle.physical_plan.proofs.Nodes.{declared-Sort}
 use Rattle.enforce_sort.proofs.Nodes.{arranged-Scan, arranged-Filter, arranged-Project, arranged-PartialGroup, arranged-FinalGroup, arranged-HashJoin, arranged-Sort, arranged-Merge, arranged-Coalesce, arranged-Repartition, arranged-UnionAll, arranged-Limit}
@@ -31,7 +31,7 @@ unfolding satisfies_order
 order_itself p = leads_itself p (struck p [] p.ordering)
 
 -- what a sort gives is sorted by its keys
-pub sorted_by : (keys : List SortKey) (p : Plan) → satisfies_order (props (sorted keys p)) keys ≡ true
+pub sorted_by : (keys : List SortKey) (p : Plan) → satisfies_order (props (with_sort keys p)) keys ≡ true
 sorted_by keys p = go (satisfies_order (props p) keys) refl
   where
     go : (b : Bool) → satisfies_order (props p) keys ≡ b → satisfies_order (props (cond b p (Sort p keys))) keys ≡ true
@@ -49,7 +49,7 @@ pub record Arranges (T U : Test) : Type 0 where
   pub same : (z : Plan-F Plan) → stays z ≡ true → T z ≡ true → all_true (map (everywhere T) (kids z)) ≡ true → U (map-Plan Plan Plan enforce_sorting z) ≡ true
   pub sort : (p : Plan) (keys : List SortKey) → T (Plan-F.Sort p keys) ≡ true → everywhere T p ≡ true → satisfies_order (props (enforce_sorting p)) keys ≡ false → U (Plan-F.Sort (enforce_sorting p) keys) ≡ true
   pub below : (p : Plan) (keys : List SortKey) → T (Plan-F.Merge p keys) ≡ true → everywhere T p ≡ true → satisfies_order (props (enforce_sorting p)) keys ≡ false → U (Plan-F.Sort (enforce_sorting p) keys) ≡ true
-  pub merge : (p : Plan) (keys : List SortKey) → T (Plan-F.Merge p keys) ≡ true → everywhere T p ≡ true → U (Plan-F.Merge (sorted keys (enforce_sorting p)) keys) ≡ true
+  pub merge : (p : Plan) (keys : List SortKey) → T (Plan-F.Merge p keys) ≡ true → everywhere T p ≡ true → U (Plan-F.Merge (with_sort keys (enforce_sorting p)) keys) ≡ true
 
 module _ (T U : Test) (h : Arranges T U) where
   abbrev Turns : Plan → Type 0
@@ -58,7 +58,7 @@ module _ (T U : Test) (h : Arranges T U) where
   abbrev Known : Type 0
   Known = (p : Plan) × Turns p
 
-  put : (keys : List SortKey) (p : Plan) → (satisfies_order (props p) keys ≡ false → U (Plan-F.Sort p keys) ≡ true) → everywhere U p ≡ true → everywhere U (sorted keys p) ≡ true
+  put : (keys : List SortKey) (p : Plan) → (satisfies_order (props p) keys ≡ false → U (Plan-F.Sort p keys) ≡ true) → everywhere U p ≡ true → everywhere U (with_sort keys p) ≡ true
   put keys p f u = go (satisfies_order (props p) keys) refl
     where
       go : (b : Bool) → satisfies_order (props p) keys ≡ b → everywhere U (cond b p (Sort p keys)) ≡ true
@@ -77,7 +77,7 @@ module _ (T U : Test) (h : Arranges T U) where
   step (Plan-F.FinalGroup x keys calls) = subst Turns (sym (rolls-FinalGroup x.0 keys calls)) (λ e. let a = parts-FinalGroup T x.0 keys calls e in ap (everywhere U) (arranged-FinalGroup x.0 keys calls) ∙ holds-FinalGroup U (enforce_sorting x.0) keys calls (h.same (Plan-F.FinalGroup x.0 keys calls) refl a.0 (both_true _ _ a.1 refl)) (x.1 a.1))
   step (Plan-F.HashJoin kind x y keys rest) = subst Turns (sym (rolls-HashJoin kind x.0 y.0 keys rest)) (λ e. let a = parts-HashJoin T kind x.0 y.0 keys rest e in ap (everywhere U) (arranged-HashJoin kind x.0 y.0 keys rest) ∙ holds-HashJoin U kind (enforce_sorting x.0) (enforce_sorting y.0) keys rest (h.same (Plan-F.HashJoin kind x.0 y.0 keys rest) refl a.0 (both_true _ _ a.1 (both_true _ _ a.2 refl))) (x.1 a.1) (y.1 a.2))
   step (Plan-F.Sort x keys) = subst Turns (sym (rolls-Sort x.0 keys)) (λ e. let a = parts-Sort T x.0 keys e in ap (everywhere U) (arranged-Sort x.0 keys) ∙ put keys (enforce_sorting x.0) (h.sort x.0 keys a.0 a.1) (x.1 a.1))
-  step (Plan-F.Merge x keys) = subst Turns (sym (rolls-Merge x.0 keys)) (λ e. let a = parts-Merge T x.0 keys e in ap (everywhere U) (arranged-Merge x.0 keys) ∙ holds-Merge U (sorted keys (enforce_sorting x.0)) keys (h.merge x.0 keys a.0 a.1) (put keys (enforce_sorting x.0) (h.below x.0 keys a.0 a.1) (x.1 a.1)))
+  step (Plan-F.Merge x keys) = subst Turns (sym (rolls-Merge x.0 keys)) (λ e. let a = parts-Merge T x.0 keys e in ap (everywhere U) (arranged-Merge x.0 keys) ∙ holds-Merge U (with_sort keys (enforce_sorting x.0)) keys (h.merge x.0 keys a.0 a.1) (put keys (enforce_sorting x.0) (h.below x.0 keys a.0 a.1) (x.1 a.1)))
   step (Plan-F.Coalesce x) = subst Turns (sym (rolls-Coalesce x.0)) (λ e. let a = parts-Coalesce T x.0 e in ap (everywhere U) (arranged-Coalesce x.0) ∙ holds-Coalesce U (enforce_sorting x.0) (h.same (Plan-F.Coalesce x.0) refl a.0 (both_true _ _ a.1 refl)) (x.1 a.1))
   step (Plan-F.Repartition x to) = subst Turns (sym (rolls-Repartition x.0 to)) (λ e. let a = parts-Repartition T x.0 to e in ap (everywhere U) (arranged-Repartition x.0 to) ∙ holds-Repartition U (enforce_sorting x.0) to (h.same (Plan-F.Repartition x.0 to) refl a.0 (both_true _ _ a.1 refl)) (x.1 a.1))
   step (Plan-F.UnionAll xs) = subst Turns (sym (rolls-UnionAll (map (λ (k : Known). k.0) xs))) (λ e. let a = parts-UnionAll T (map (λ (k : Known). k.0) xs) e in ap (everywhere U) (arranged-UnionAll (map (λ (k : Known). k.0) xs)) ∙ holds-UnionAll U (map enforce_sorting (map (λ (k : Known). k.0) xs)) (h.same (Plan-F.UnionAll (map (λ (k : Known). k.0) xs)) refl a.0 a.1) (all_turn xs a.1))
@@ -94,7 +94,7 @@ Kept p = erased (enforce_sorting p) ≡ erased p
 abbrev Kept_plan : Type 0
 Kept_plan = (p : Plan) × Kept p
 
-pub sorted_erased : (keys : List SortKey) (p : Plan) → erased (sorted keys p) ≡ erased p
+pub sorted_erased : (keys : List SortKey) (p : Plan) → erased (with_sort keys p) ≡ erased p
 sorted_erased keys p = go (satisfies_order (props p) keys)
   where
     go : (b : Bool) → erased (cond b p (Sort p keys)) ≡ erased p
@@ -113,7 +113,7 @@ kept_step (Plan-F.PartialGroup x keys calls) = subst Kept (sym (rolls-PartialGro
 kept_step (Plan-F.FinalGroup x keys calls) = subst Kept (sym (rolls-FinalGroup x.0 keys calls)) (ap erased (arranged-FinalGroup x.0 keys calls) ∙ erased-FinalGroup (enforce_sorting x.0) keys calls ∙ ap (λ (p : Plan). FinalGroup p keys calls) x.1 ∙ sym (erased-FinalGroup x.0 keys calls))
 kept_step (Plan-F.HashJoin kind x y keys rest) = subst Kept (sym (rolls-HashJoin kind x.0 y.0 keys rest)) (ap erased (arranged-HashJoin kind x.0 y.0 keys rest) ∙ erased-HashJoin kind (enforce_sorting x.0) (enforce_sorting y.0) keys rest ∙ ap (λ (p : Plan). HashJoin kind p (erased (enforce_sorting y.0)) keys rest) x.1 ∙ ap (λ (p : Plan). HashJoin kind (erased x.0) p keys rest) y.1 ∙ sym (erased-HashJoin kind x.0 y.0 keys rest))
 kept_step (Plan-F.Sort x keys) = subst Kept (sym (rolls-Sort x.0 keys)) (ap erased (arranged-Sort x.0 keys) ∙ sorted_erased keys (enforce_sorting x.0) ∙ x.1 ∙ sym (erased-Sort x.0 keys))
-kept_step (Plan-F.Merge x keys) = subst Kept (sym (rolls-Merge x.0 keys)) (ap erased (arranged-Merge x.0 keys) ∙ erased-Merge (sorted keys (enforce_sorting x.0)) keys ∙ sorted_erased keys (enforce_sorting x.0) ∙ x.1 ∙ sym (erased-Merge x.0 keys))
+kept_step (Plan-F.Merge x keys) = subst Kept (sym (rolls-Merge x.0 keys)) (ap erased (arranged-Merge x.0 keys) ∙ erased-Merge (with_sort keys (enforce_sorting x.0)) keys ∙ sorted_erased keys (enforce_sorting x.0) ∙ x.1 ∙ sym (erased-Merge x.0 keys))
 kept_step (Plan-F.Coalesce x) = subst Kept (sym (rolls-Coalesce x.0)) (ap erased (arranged-Coalesce x.0) ∙ erased-Coalesce (enforce_sorting x.0) ∙ x.1 ∙ sym (erased-Coalesce x.0))
 kept_step (Plan-F.Repartition x to) = subst Kept (sym (rolls-Repartition x.0 to)) (ap erased (arranged-Repartition x.0 to) ∙ erased-Repartition (enforce_sorting x.0) to ∙ x.1 ∙ sym (erased-Repartition x.0 to))
 kept_step (Plan-F.UnionAll xs) = subst Kept (sym (rolls-UnionAll (map (λ (k : Kept_plan). k.0) xs))) (ap erased (arranged-UnionAll (map (λ (k : Kept_plan). k.0) xs)) ∙ erased-UnionAll (map enforce_sorting (map (λ (k : Kept_plan). k.0) xs)) ∙ ap UnionAll (all_kept xs) ∙ sym (erased-UnionAll (map (λ (k : Kept_plan). k.0) xs)))

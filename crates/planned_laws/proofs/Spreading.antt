@@ -18,7 +18,7 @@ use Rattle.physical_plan.specs.declared.plan.Plan.TheViews.{roll-Plan}
 use Rattle.physical_plan.specs.declared.plan.Plan.TheFolds.{map-Plan, ind-Plan}
 use Rattle.physical_plan.specs.declared.plan.Plan.TheVariants.{Scan, Filter, Project, PartialGroup, FinalGroup, HashJoin, Repartition, UnionAll, Limit, rolls-Scan, rolls-Filter, rolls-Project, rolls-PartialGroup, rolls-FinalGroup, rolls-HashJoin, rolls-Sort, rolls-Merge, rolls-Coalesce, rolls-Repartition, rolls-UnionAll, rolls-Limit}
 use Rattle.physical_plan.specs.declared.properties.Declared.{Declared}
-use Rattle.physical_plan.specs.Properties.{declared_of, props, partitions, parts, left_keys, right_keys, repartitioned}
+use Rattle.physical_plan.specs.Properties.{declared_of, props, partitions, declared_partitions, left_keys, right_keys, repartitioned}
 use Rattle.enforce_dist.specs.Distribute.{gathered, gathered_by, hashed, grouped_input, join_input, spread, distributed}
 use Rattle.physical_plan.specs.Everywhere.{Test, everywhere, all_true, kids, erased}
 use Rattle.physical_plan.specs.Needs.{group_need}
@@ -79,8 +79,8 @@ hashed_met d keys n p f = go (satisfies_distribution (props p) d) refl
     go false e = ap (λ (x : Declared). satisfies_distribution x.props d) (declared-Repartition p (parting.Hash keys n)) ∙ f (declared_of p)
 
 gathered_by_single : (keys : List SortKey) (p : Plan) → partitions (gathered_by keys p) ≡ 1
-gathered_by_single [] p = ap (λ (x : Declared). parts x) (declared-Coalesce p)
-gathered_by_single (k ∷ keys) p = ap (λ (x : Declared). parts x) (declared-Merge p (k ∷ keys))
+gathered_by_single [] p = ap (λ (x : Declared). declared_partitions x) (declared-Coalesce p)
+gathered_by_single (k ∷ keys) p = ap (λ (x : Declared). declared_partitions x) (declared-Merge p (k ∷ keys))
 
 pub gathered_single : (p : Plan) → partitions (gathered p) ≡ 1
 gathered_single p = go (eqb (partitions p) 1) refl

@@ -9,7 +9,7 @@ use Rattle.logical_plan.specs.declared.plan.Logical.TheOpen.{Logical-F}
 use Rattle.logical_plan.specs.declared.plan.Logical.TheViews.{roll-Logical}
 use Rattle.logical_plan.specs.declared.plan.Logical.TheFolds.{fold-roll-Logical, para-roll-Logical, map-Logical}
 use Rattle.logical_plan.specs.declared.query.Query.{Query}
-use Rattle.logical_plan.specs.Body.{Tables, Part, node, whole, kinds}
+use Rattle.logical_plan.specs.Body.{Tables, Part, node, meant_part, kinds}
 use Rattle.planned_laws.specs.Queries.{here_and_below, body_in_range, QueryInRange}
 use Rattle.answer_laws.specs.Distincts.{distinct_node, has_distincts}
 use Rattle.finished_laws.specs.Known.{known_node, is_known}
@@ -32,8 +32,8 @@ query = record {
   limit = Some 1;
 }
 
-rolled : (ts : Tables) (z : Logical-F Logical) → whole ts (roll-Logical z) ≡ node ts (map-Logical Logical Part (whole ts) z)
-unfolding whole
+rolled : (ts : Tables) (z : Logical-F Logical) → meant_part ts (roll-Logical z) ≡ node ts (map-Logical Logical Part (meant_part ts) z)
+unfolding meant_part
 rolled ts z = fold-roll-Logical Part (node ts) z
 
 pub distincts : has_distincts tables query.body ≡ true
@@ -50,7 +50,7 @@ known =
     let b = para-roll-Logical Bool (known_node tables (2 ∷ [])) scan in
     rw (a, b, rolled tables scan) refl
 
-kinds_of : (z : Logical-F Logical) → kinds (roll-Logical z) ≡ (node [] (map-Logical Logical Part (whole []) z)).kinds
+kinds_of : (z : Logical-F Logical) → kinds (roll-Logical z) ≡ (node [] (map-Logical Logical Part (meant_part []) z)).kinds
 unfolding kinds
 kinds_of z = ap (λ (p : Part). p.kinds) (rolled [] z)
 

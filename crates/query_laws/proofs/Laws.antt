@@ -44,7 +44,8 @@ use Rattle.fault_laws.proofs.Laws.{at_file}
 use Rattle.state_laws.specs.Good.{Good}
 use Rattle.state_laws.proofs.Laws as good_states
 use Rattle.query_laws.specs.Runs.{Setting, csv_tables, tables_in, IsSetting, doing_in, LeadsTo}
-use Rattle.query_laws.proofs.Prepared.{IsOf, spells, is_of, kinds_are, counts_are}
+use Rattle.dfx_prepare.proofs.Meant.{spells}
+use Rattle.query_laws.proofs.Prepared.{IsOf, is_of, kinds_are, counts_are}
 
 module _ (r : Setting) (is : IsSetting r) where
   abbrev p : Prepared

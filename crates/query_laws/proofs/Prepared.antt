@@ -14,6 +14,7 @@ use Rattle.logical_plan.specs.declared.query.Query.{Query}
 use Rattle.dfx_prepare.specs.Preparing.{Path, schema_of, of_parsed, of_tokens, script_of, of_bound, query_of, plan_of, table_files, followed, files_of, with_files, prepared_over, prepared_script, prepared}
 use Rattle.failure_text.specs.declared.failure.Failure.{Failure}
 use Rattle.dfx_prepare.specs.declared.prepared.Prepared.{Prepared}
+use Rattle.dfx_prepare.proofs.Meant.{query_is}
 use Rattle.kind_laws.specs.Tables.{table_kinds, file_counts}
 use Rattle.query_laws.specs.Runs.{csv_tables}
 
@@ -39,14 +40,6 @@ counted all (t ∷ ts) paths e = by_table (table_files all t) (counted all ts) e
     by_table (Ok files) k h = by_rest files (files_of all ts) refl k h
     by_table (Err refusal) k h = cc
 
-bound_is : (a : Answer Query) (q : Query) → of_bound a ≡ Ok q → a ≡ Ok q
-bound_is (Ok x) q e = (let a : x ≡ q = cc in ap Ok a)
-bound_is (Err refusal) q e = cc
-
-query_is : (script : Script) (q : Query) → query_of script ≡ Ok q → bound script (map schema_of script.tables) ≡ Ok q
-unfolding query_of
-query_is script q e = bound_is (bound script (map schema_of script.tables)) q e
-
 of_query : (script : Script) (n : ℕ) (paths : List (List Path)) (p : Prepared) → length paths ≡ length script.tables → (r : Result Query Failure) → query_of script ≡ r
     → followed r (λ q. Ok (with_files script.tables n paths q)) ≡ Ok p → IsOf script n p
 of_query script n paths p l (Ok q) e h = (let a : with_files script.tables n paths q ≡ p = cc in
@@ -59,21 +52,6 @@ of_files all n script p (Err refusal) e h = cc
 
 pub is_of : (text : List ℕ) (all : Contents) (n : ℕ) (script : Script) (p : Prepared) → script_of text ≡ Ok script → prepared text all n ≡ Ok p → IsOf script n p
 is_of text all n script p s e = of_files all n script p (files_of all script.tables) refl (sym (ap (λ r. followed r (prepared_script all n)) s) ∙ e)
-
--- ------------------------------------------------------------ its tokens
-
-of_tokens_is : (text : List ℕ) (script : Script) (r : Result (List Token) LexRefused) → of_tokens text r ≡ Ok script → (tokens : List Token) × (parsed text tokens ≡ Ok script)
-of_tokens_is text script (Ok tokens) e = (tokens, go (parsed text tokens) e)
-  where
-    go : (r : Result Script SyntaxRefused) → of_parsed r ≡ Ok script → r ≡ Ok script
-    go (Ok s) e = let a : s ≡ script = cc in ap Ok a
-    go (Err refused) e = cc
-of_tokens_is text script (Err refused) e = cc
-
--- the tokens of a text that spells a script are parsed to it
-pub spells : (text : List ℕ) (script : Script) → script_of text ≡ Ok script → (tokens : List Token) × (parsed text tokens ≡ Ok script)
-unfolding script_of
-spells text script e = of_tokens_is text script (Tokens text) e
 
 -- ------------------------------------------------------------ its tables
 

@@ -1,3 +1,2 @@
 pub mod AnswerText
-pub mod Lines
-pub mod RowLines
+pub mod Buffers

@@ -19,6 +19,8 @@ use Rattle.std.specs.Prelude.{replicate}
 use Rattle.dfx_value.specs.declared.value.Value.TheVariants as value
 use Rattle.std.proofs.Math.Seq.{take-length}
 use Rattle.scalar_vector.proofs.Loops.{first_places, beyond}
+use Rattle.scalar_vector.proofs.ItemSteps.{value-beyond}
+use Rattle.value_columns.specs.Columns.{or_null}
 use Rattle.scalar_vector.proofs.Evals.{map_agree, map_constant}
 use Rattle.scalar_vector.specs.Fronts.{Front, before, front, row_at, evals, evaluated, Ends, IsFront}
 
@@ -80,3 +82,9 @@ short-at ks (r ∷ rs) k (suc p) h short = short-at ks rs k p (right_of _ _ h) s
 pub no_column : (ks : List Kind) (rs : List (List Value)) (k : ℕ) (ps : List ℕ) → all_are ks rs ≡ true → length ks ≤ k
     → replicate (length ps) value.Null ≡ map (λ p. cell (row_at rs p) k) ps
 no_column ks rs k ps h short = sym (map_agree (λ p. cell (row_at rs p) k) (λ p. value.Null) (λ p. short-at ks rs k p h short) ps ∙ map_constant value.Null ps)
+
+-- items of a column at places
+pub gathered : {A : Type 0} (f : A → Value) (xs new : List (Option A)) (rs : List (List Value)) (k : ℕ) (ps : List ℕ) → map (or_null f) xs ≡ column_of rs k
+    → new ≡ map (λ p. get_or xs p None) ps → map (or_null f) new ≡ map (λ p. cell (row_at rs p) k) ps
+gathered f xs new rs k ps all is = ap (map (or_null f)) is ∙ map-map (or_null f) (λ p. get_or xs p None) ps
+    ∙ map_agree (λ p. or_null f (get_or xs p None)) (λ p. cell (row_at rs p) k) (λ p. sym (value-beyond f xs p) ∙ ap (λ (vs : List Value). get_or vs p value.Null) all ∙ column-at rs k p) ps

@@ -1,5 +1,5 @@
 -- Steps of the loops over whole numbers.
-use Rattle.std.proofs.Common.{◌≡◌, ℕ, ℤ, pos, ◌+◌, ◌-◌, ◌≤◌, ◌<◌, min, Bool, true, false, refl, zero, suc, Some, None, List, [], ◌∷◌, ◌++◌, Ok, Err, map, take, drop, length, get_or, ap, sym, ◌∙◌, arith}
+use Rattle.std.proofs.Common.{◌≡◌, ℕ, ℤ, pos, ◌+◌, ◌-◌, ◌≤◌, ◌<◌, min, Bool, true, false, refl, zero, suc, Option, Some, None, List, [], ◌∷◌, ◌++◌, Ok, Err, map, take, drop, length, get_or, ap, sym, ◌∙◌, arith}
 use Rattle.std.proofs.lemmas.List.{get_or-map, map-append, take-map, take_min, take_all}
 use Rattle.std.proofs.Math.ListN.{length-map}
 use Rattle.dfx_value.specs.declared.value.Value.{Value}
@@ -52,14 +52,15 @@ lane-end g h ls rs i xs whole end e =
     let n : length (ints rs) ≡ length rs = length-map rs value.Int in
     zipped-end h (ints ls) (ints rs) i (map g xs) whole (omega arith) e
 
-pub truth_at : (bs : List Bool) (i : ℕ) → i < length bs → get_or (map value.Bool bs) i value.Null ≡ value.Bool (get_or bs i false)
-truth_at bs i h = get_or-map value.Bool bs i false value.Null h
-
 pub one_int : (n : ℤ) (k : ℕ) → replicate k (value.Int n) ≡ ints (replicate k n)
 one_int n zero = refl
 one_int n (suc k) = ap (λ (vs : List Value). value.Int n ∷ vs) (one_int n k)
 
-pub all_true : (bs : List Bool) → map is_true (map value.Bool bs) ≡ bs
+pub unmasked_truths : (bs : List Bool) → map (or_null value.Bool) (masked bs []) ≡ map value.Bool bs
+unmasked_truths [] = refl
+unmasked_truths (b ∷ bs) = ap (λ (vs : List Value). value.Bool b ∷ vs) (unmasked_truths bs)
+
+pub all_true : (bs : List Bool) → map is_true (map (or_null value.Bool) (masked bs [])) ≡ bs
 all_true [] = refl
 all_true (true ∷ bs) = ap (λ (cs : List Bool). true ∷ cs) (all_true bs)
 all_true (false ∷ bs) = ap (λ (cs : List Bool). false ∷ cs) (all_true bs)
@@ -75,3 +76,13 @@ lane_of vs ns (b ∷ bits) to count k e all none least = absurd (omega arith)
 lane_of vs ns [] to count k e all none least =
     let whole : vs ≡ ints ns = sym (take_all (to - 0) vs (omega arith)) ∙ sym e ∙ unmasked ns in
     ap (take count) whole ∙ first_ints ns count ∙ ap (λ (m : ℕ). ints (take m ns)) (sym least)
+
+-- whole numbers whose mask has no bit
+pub none_null : (xs : List (Option ℤ)) (ns : List ℤ) (bits : List Bool) (n : ℕ) → masked ns bits ≡ slice_range xs 0 n → n ≡ length xs → length bits ≡ 0 → map (or_null value.Int) xs ≡ ints ns
+none_null xs ns (b ∷ bits) n e all none = absurd (omega arith)
+none_null xs ns [] n e all none = ap (map (or_null value.Int)) (sym (take_all (n - 0) xs (omega arith)) ∙ sym e) ∙ unmasked ns
+
+-- truths whose mask has no bit
+pub all_bits : (xs : List (Option Bool)) (bs bits : List Bool) (n : ℕ) → masked bs bits ≡ slice_range xs 0 n → n ≡ length xs → length bits ≡ 0 → bs ≡ map is_true (map (or_null value.Bool) xs)
+all_bits xs bs (b ∷ bits) n e all none = absurd (omega arith)
+all_bits xs bs [] n e all none = sym (all_true bs) ∙ ap (λ (ys : List (Option Bool)). map is_true (map (or_null value.Bool) ys)) (e ∙ take_all (n - 0) xs (omega arith))

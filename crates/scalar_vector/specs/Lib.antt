@@ -4,3 +4,4 @@ pub mod Vectors
 pub mod Steps
 pub mod Arms
 pub mod Lanes
+pub mod Items

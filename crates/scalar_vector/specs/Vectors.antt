@@ -1,12 +1,12 @@
 -- Meaning: the values that a vector shows.
-use Rattle.std.specs.Prelude.{ℕ, List, replicate, map, take, Option, Some, None, ◌≡◌}
+use Rattle.std.specs.Prelude.{ℕ, List, replicate, take, Option, Some, None, ◌≡◌}
 use Rattle.std.specs.Prelude.{Vec}
 use Rattle.std.specs.List.{range_with_len}
 use Rattle.dfx_value.specs.declared.value.Value.{Value}
-use Rattle.dfx_value.specs.declared.value.Value.TheVariants as value
 use Rattle.scalar_exprs.specs.declared.refused.EvalRefused.{EvalRefused}
 use Rattle.scalar_exprs.specs.declared.refused.EvalRefused.TheVariants as refused
 use Rattle.scalar_vector.specs.Fronts.{Front}
+use Rattle.scalar_vector.specs.Items.{ints, truths}
 use Rattle.scalar_vector.specs.declared.vector.Vector.{Vector}
 use Rattle.scalar_vector.specs.declared.vector.Vector.TheVariants as vector
 use Rattle.scalar_vector.specs.declared.vector.Part.{Part}
@@ -19,8 +19,8 @@ abbrev pub values_of : Vector → List Value
 values_of (vector.Constant v n) = replicate n v
 values_of (vector.Shown c n) = take n c.values
 values_of (vector.Made vs) = vs.items
-values_of (vector.Ints ns) = map value.Int ns.items
-values_of (vector.Truths bs) = map value.Bool bs.items
+values_of (vector.Ints ns) = ints ns
+values_of (vector.Truths bs) = truths bs
 
 abbrev pub front_of : Part → Front
 front_of p = record { values = values_of p.vector; fault = p.fault }

@@ -6,8 +6,12 @@ ghost use Rattle.scalar_vector.specs.Fronts.{front};
 ghost use Rattle.scalar_vector.specs.Woven.{zipped, paired};
 ghost use Rattle.scalar_vector.specs.Vectors.{front_of, values_of};
 
-use crate::lanes::{compare_ints, compute_ints, is_arithmetic_op, is_comparison_op};
+use crate::lanes::{
+    compare_ints, compute_ints, is_arithmetic_op, is_comparison_op, is_connective_op,
+};
 use crate::looks::operate_cells;
+use crate::numbers::{compare_items, compute_items};
+use crate::truths::connect_items;
 use crate::vector::{Part, Vector, earlier, stopped};
 use dfx_value::{NoMemory, Op};
 use std::alloc::Global;
@@ -42,6 +46,19 @@ fn operate_all(alloc: Global, op: Op, left: &Vector, right: &Vector) -> Result<P
         }
         if is_comparison_op(op) {
             return compare_ints(alloc, op, ones, others);
+        }
+    }
+    if let (Some(ones), Some(others)) = (left.int_items(), right.int_items()) {
+        if is_arithmetic_op(op) {
+            return compute_items(alloc, op, &ones, &others);
+        }
+        if is_comparison_op(op) {
+            return compare_items(alloc, op, &ones, &others);
+        }
+    }
+    if is_connective_op(op) {
+        if let (Some(ones), Some(others)) = (left.truth_items(), right.truth_items()) {
+            return connect_items(alloc, op, &ones, &others);
         }
     }
     operate_values(alloc, op, left, right)

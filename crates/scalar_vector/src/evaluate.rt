@@ -1,7 +1,8 @@
 //! The values of an expression on rows, up to the first row on which it has none.
 
-ghost use Rattle.std.specs.Prelude.{◌≡◌, ◌<◌, IfOk, length, map, None};
+ghost use Rattle.std.specs.Prelude.{◌≡◌, ◌<◌, IfOk, length, map, None, slice_index_or};
 ghost use Rattle.dfx_value.specs.Rows.{cell};
+ghost use Rattle.dfx_value.specs.declared.kind.Kind.TheVariants as cell_kind;
 ghost use Rattle.scalar_exprs.specs.Truth.{is_true};
 ghost use Rattle.scalar_exprs.specs.declared.expr.Expr.TheVariants.{Coalesce};
 ghost use Rattle.scalar_vector.specs.Arms.{part_level, left_by, Surrounds};
@@ -10,6 +11,7 @@ ghost use Rattle.scalar_vector.specs.Vectors.{front_of, level_of, values_of, pla
 ghost use Rattle.value_columns.specs.Cells.{value_of};
 
 use crate::binary::operate_parts;
+use crate::items::{Items, gather_items};
 use crate::level::{Level, rebuild};
 use crate::places::{Places, split};
 use crate::unary::{Unary, apply_part};
@@ -51,10 +53,43 @@ fn gather(
     Ok(values)
 }
 
+/// The cells of a column at places, of whole numbers and of truths as items.
+fn gather_column(
+    alloc: Global,
+    kind: Kind,
+    batch: &Batch,
+    column: u32,
+    places: Places<'_>,
+) -> Result<Vector, NoMemory>
+    requires column { column < length batch.now.kinds }
+    requires kind { kind ≡ slice_index_or batch.now.kinds column cell_kind.Bool }
+    ensures { IfOk result (λ v. values_of v
+        ≡ map (λ p. cell (row_at batch.now.rows p) column) (places_of places.entry)) }
+{
+    match kind {
+        Kind::Int => {
+            let (numbers, nulls) = batch.ints(column);
+            Ok(Vector::Ints(gather_items(alloc, &Items::Many(numbers, nulls), places)?))
+        }
+        Kind::Bool => {
+            let (bits, nulls) = batch.truths(column);
+            Ok(Vector::Truths(gather_items(alloc, &Items::Many(bits, nulls), places)?))
+        }
+        _ => Ok(Vector::Made(gather(alloc, batch, column, places)?)),
+    }
+}
+
 /// The cells of a column at places: those of the first rows as they stand.
 #[tactic(auto, using(crate::proofs::Batches::shown_cells))]
-fn show(alloc: Global, batch: &Batch, column: u32, places: Places<'_>) -> Result<Vector, NoMemory>
+fn show(
+    alloc: Global,
+    kind: Kind,
+    batch: &Batch,
+    column: u32,
+    places: Places<'_>,
+) -> Result<Vector, NoMemory>
     requires column { column < length batch.now.kinds }
+    requires kind { kind ≡ slice_index_or batch.now.kinds column cell_kind.Bool }
     ensures { IfOk result (λ v. values_of v
         ≡ map (λ p. cell (row_at batch.now.rows p) column) (places_of places.entry)) }
 {
@@ -62,7 +97,7 @@ fn show(alloc: Global, batch: &Batch, column: u32, places: Places<'_>) -> Result
         Places::First(count) if count <= batch.rows() => {
             Ok(Vector::Shown(batch.column(alloc, column)?, count as usize))
         }
-        _ => Ok(Vector::Made(gather(alloc, batch, column, places)?)),
+        _ => gather_column(alloc, kind, batch, column, places),
     }
 }
 
@@ -81,7 +116,7 @@ fn column_values(
 {
     let _ = batch.rows();
     if (column as usize) < kinds.len() {
-        show(alloc, batch, column, places)
+        show(alloc, kinds[column as usize], batch, column, places)
     } else {
         Ok(Vector::Constant(Value::Null, places.len()))
     }
@@ -107,7 +142,7 @@ fn eval_present(
     let marks = values.vector.present(alloc)?;
     let (_, left) = split(alloc, places, &marks)?;
     let taken = Part {
-        vector: Vector::Made(values.vector.chosen(alloc, &marks)?),
+        vector: values.vector.select(alloc, &marks)?,
         fault: None,
     };
     Ok((

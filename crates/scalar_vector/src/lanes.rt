@@ -4,13 +4,14 @@ ghost use Rattle.std.specs.Prelude.{◌≡◌, ◌<◌, ◌≤◌, pos, length, 
 ghost use Rattle.dfx_value.specs.declared.value.Value.TheVariants as value;
 ghost use Rattle.scalar_exprs.specs.Functions as spec;
 ghost use Rattle.scalar_vector.specs.Fronts.{front};
-ghost use Rattle.scalar_vector.specs.Lanes.{ints_of, is_arithmetic, is_comparison};
-ghost use Rattle.scalar_vector.specs.Vectors.{front_of};
+ghost use Rattle.scalar_vector.specs.Lanes.{ints_of, is_arithmetic, is_comparison, is_connective};
+ghost use Rattle.scalar_vector.specs.Vectors.{front_of, values_of};
 ghost use Rattle.scalar_vector.specs.Woven.{zipped};
 
 use crate::vector::{Part, Vector};
 use dfx_value::{EvalFault, NoMemory, Op};
 use std::alloc::Global;
+use value_columns::Masked;
 
 /// Whole numbers, none of them NULL.
 #[derive(Clone, Copy)]
@@ -55,10 +56,16 @@ pub fn is_comparison_op(op: Op) -> bool
     matches!(op, Op::Eq | Op::Ne | Op::Lt | Op::Le | Op::Gt | Op::Ge)
 }
 
+pub fn is_connective_op(op: Op) -> bool
+    ensures { result ≡ is_connective op }
+{
+    matches!(op, Op::And | Op::Or)
+}
+
 /// The number where 64 bits hold it.
 #[inline]
-#[tactic(auto, unfolding(scalar_exprs::specs::Functions::whole))]
-fn int_result(op: Op, left: i64, right: i64) -> Option<i64>
+#[tactic(auto, unfolding(scalar_exprs::specs::Functions::int_outcome))]
+pub fn int_result(op: Op, left: i64, right: i64) -> Option<i64>
     requires { is_arithmetic op ≡ true }
     ensures { spec.whole_or_overflow result ≡ spec.operated op (value.Int left) (value.Int right) }
 {
@@ -71,7 +78,7 @@ fn int_result(op: Op, left: i64, right: i64) -> Option<i64>
 
 #[inline]
 #[tactic(auto, using(dfx_value::proofs::OrderLemmas::ints))]
-fn int_test(op: Op, left: i64, right: i64) -> bool
+pub fn int_test(op: Op, left: i64, right: i64) -> bool
     requires { is_comparison op ≡ true }
     ensures { spec.operated op (value.Int left) (value.Int right) ≡ Ok (value.Bool result) }
 {
@@ -84,6 +91,20 @@ fn int_test(op: Op, left: i64, right: i64) -> bool
         Op::Gt => order.is_gt(),
         _ => order.is_ge(),
     }
+}
+
+/// Whole numbers, none of them NULL.
+fn whole_numbers(alloc: Global, numbers: Vec<i64>) -> Vector
+    ensures { values_of result ≡ map value.Int numbers.items }
+{
+    Vector::Ints(Masked::of_parts(numbers, Vec::new(alloc)))
+}
+
+/// Truths, none of them NULL.
+fn whole_truths(alloc: Global, truths: Vec<bool>) -> Vector
+    ensures { values_of result ≡ map value.Bool truths.items }
+{
+    Vector::Truths(Masked::of_parts(truths, Vec::new(alloc)))
 }
 
 pub fn compute_ints(
@@ -104,14 +125,14 @@ pub fn compute_ints(
             Some(number) => numbers.push(number)?,
             None => {
                 return Ok(Part {
-                    vector: Vector::Ints(numbers),
+                    vector: whole_numbers(alloc, numbers),
                     fault: Some(EvalFault::Overflow),
                 });
             }
         }
     }
     Ok(Part {
-        vector: Vector::Ints(numbers),
+        vector: whole_numbers(alloc, numbers),
         fault: None,
     })
 }
@@ -133,7 +154,7 @@ pub fn compare_ints(
         truths.push(int_test(op, left.get(at), right.get(at)))?;
     }
     Ok(Part {
-        vector: Vector::Truths(truths),
+        vector: whole_truths(alloc, truths),
         fault: None,
     })
 }

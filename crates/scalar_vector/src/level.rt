@@ -4,6 +4,7 @@ ghost use Rattle.std.specs.Prelude.{◌≡◌, IfOk, map};
 ghost use Rattle.scalar_vector.specs.Woven as spec;
 ghost use Rattle.scalar_vector.specs.Vectors.{front_of, level_of, values_of};
 
+use crate::items::weave_items;
 use crate::vector::{Part, Vector, earlier};
 use dfx_value::{EvalFault, NoMemory};
 use std::alloc::Global;
@@ -18,7 +19,7 @@ pub struct Level {
 }
 
 /// The values of marked rows and of the others in the rows' order, up to the first that is missing.
-fn weave(alloc: Global, marks: &[bool], taken: &Part, rest: &Part) -> Result<Part, NoMemory>
+fn weave_values(alloc: Global, marks: &[bool], taken: &Part, rest: &Part) -> Result<Part, NoMemory>
     ensures { IfOk result (λ p. front_of p
         ≡ spec.woven marks.now (values_of taken.now.vector) taken.now.fault
         (values_of rest.now.vector) rest.now.fault) }
@@ -51,6 +52,29 @@ fn weave(alloc: Global, marks: &[bool], taken: &Part, rest: &Part) -> Result<Par
         vector: Vector::Made(values),
         fault: None,
     })
+}
+
+/// The same, of whole numbers and of truths as items.
+fn weave(alloc: Global, marks: &[bool], taken: &Part, rest: &Part) -> Result<Part, NoMemory>
+    ensures { IfOk result (λ p. front_of p
+        ≡ spec.woven marks.now (values_of taken.now.vector) taken.now.fault
+        (values_of rest.now.vector) rest.now.fault) }
+{
+    if let (Some(ones), Some(others)) = (taken.vector.int_items(), rest.vector.int_items()) {
+        let (items, fault) = weave_items(alloc, marks, &ones, taken.fault, &others, rest.fault)?;
+        return Ok(Part {
+            vector: Vector::Ints(items),
+            fault,
+        });
+    }
+    if let (Some(ones), Some(others)) = (taken.vector.truth_items(), rest.vector.truth_items()) {
+        let (items, fault) = weave_items(alloc, marks, &ones, taken.fault, &others, rest.fault)?;
+        return Ok(Part {
+            vector: Vector::Truths(items),
+            fault,
+        });
+    }
+    weave_values(alloc, marks, taken, rest)
 }
 
 /// The rows of an arm, where the unmarked ones have this part.

@@ -4,11 +4,14 @@
 mod binary;
 mod columns;
 mod evaluate;
+mod items;
 mod lanes;
 mod law;
 mod level;
 mod looks;
+mod numbers;
 mod places;
+mod truths;
 mod unary;
 mod vector;
 

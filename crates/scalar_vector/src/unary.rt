@@ -3,11 +3,14 @@
 ghost use Rattle.std.specs.Prelude.{◌≡◌, IfOk, map};
 ghost use Rattle.scalar_exprs.specs.Eval.{Gives};
 ghost use Rattle.scalar_vector.specs.Fronts.{front};
+ghost use Rattle.scalar_vector.specs.Items.{items_of, truths};
+ghost use Rattle.scalar_vector.specs.declared.unary.Unary.TheVariants as unary;
 ghost use Rattle.scalar_vector.specs.Woven.{followed};
 ghost use Rattle.scalar_vector.specs.Steps.{applied};
 ghost use Rattle.scalar_vector.specs.Vectors.{front_of, values_of};
 ghost use Rattle.value_columns.specs.Cells.{value_of};
 
+use crate::items::Items;
 use crate::looks::{copy_cell, is_null_cell};
 use crate::vector::{Part, Vector, earlier, stopped};
 use column_batch::Cell;
@@ -16,6 +19,7 @@ use scalar_exprs::{
     EvalRefused, absolute, cast, from_truth, is_null, length_of, negate, not_3, truth,
 };
 use std::alloc::Global;
+use value_columns::Masked;
 
 /// A function of one operand.
 #[derive(Clone, Copy)]
@@ -59,8 +63,8 @@ fn apply_cell(alloc: Global, function: Unary, cell: &Cell<'_>) -> Result<Value, 
     }
 }
 
-/// A function on each value.
-fn apply_all(alloc: Global, function: Unary, vector: &Vector) -> Result<Part, NoMemory>
+/// A function on each value, one after the other.
+fn apply_values(alloc: Global, function: Unary, vector: &Vector) -> Result<Part, NoMemory>
     ensures { IfOk result (λ p. front_of p
         ≡ front (map (applied function) (values_of vector.now))) }
 {
@@ -75,6 +79,51 @@ fn apply_all(alloc: Global, function: Unary, vector: &Vector) -> Result<Part, No
         vector: Vector::Made(values),
         fault: None,
     })
+}
+
+/// Which values are NULL.
+fn nulls_of(alloc: Global, vector: &Vector) -> Result<Part, NoMemory>
+    ensures { IfOk result (λ p. front_of p
+        ≡ front (map (applied unary.IsNull) (values_of vector.now))) }
+{
+    let mut bits = Masked::with_capacity(alloc, vector.len())?;
+    for at in 0..vector.len() {
+        bits.push(is_null_cell(&vector.get(at)))?;
+    }
+    Ok(Part {
+        vector: Vector::Truths(bits),
+        fault: None,
+    })
+}
+
+/// NOT of each truth.
+fn not_items(alloc: Global, items: &Items<'_, bool>) -> Result<Part, NoMemory>
+    ensures { IfOk result (λ p. front_of p
+        ≡ front (map (applied unary.Not) (truths (items_of items.now)))) }
+{
+    let mut bits = Masked::with_capacity(alloc, items.len())?;
+    for at in 0..items.len() {
+        bits.push_item(not_3(items.get(at)), false)?;
+    }
+    Ok(Part {
+        vector: Vector::Truths(bits),
+        fault: None,
+    })
+}
+
+/// A function on each value.
+fn apply_all(alloc: Global, function: Unary, vector: &Vector) -> Result<Part, NoMemory>
+    ensures { IfOk result (λ p. front_of p
+        ≡ front (map (applied function) (values_of vector.now))) }
+{
+    match function {
+        Unary::IsNull => nulls_of(alloc, vector),
+        Unary::Not => match vector.truth_items() {
+            Some(items) => not_items(alloc, &items),
+            None => apply_values(alloc, Unary::Not, vector),
+        },
+        _ => apply_values(alloc, function, vector),
+    }
 }
 
 /// A function on each value of a part, whose fault comes after them.

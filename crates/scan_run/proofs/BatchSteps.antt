@@ -1,19 +1,18 @@
 -- Rows and batches of one file, one more.
-use Rattle.std.proofs.Common.{◌≡◌, refl, ℕ, suc, ◌+◌, ◌<◌, List, [], ◌∷◌, ◌++◌, length, map, take, Option, Some, None, Bool, true, false, Result, Ok, Err, ap, sym, ◌∙◌, subst, arith, append_assoc, length-append}
+use Rattle.std.proofs.Common.{◌≡◌, ◌≢◌, refl, ℕ, suc, ◌+◌, ◌<◌, ◌≤◌, List, [], ◌∷◌, ◌++◌, length, map, take, drop, Option, Some, None, Bool, true, false, Result, Ok, Err, ap, sym, ◌∙◌, subst, arith, append_assoc, length-append}
 use Rattle.std.proofs.Math.Seq.{take-append-add, take-length}
-use Rattle.std.proofs.lemmas.List.{append-nil, map-append}
+use Rattle.std.proofs.lemmas.List.{append-nil, map-append, take_all, take-append-drop, length-take}
 use Rattle.dfx_outside.specs.Bytes.{EndsInFront}
 use Rattle.dfx_value.specs.declared.fault.ItemFault.{ItemFault}
 use Rattle.dfx_value.specs.declared.fault.ItemFault.TheVariants.{Evaluation}
 use Rattle.csv_source.specs.CsvItems as csv
 use Rattle.csv_source.specs.CsvItems.{is_bad}
-use Rattle.csv_source.specs.ScanView.{GivesRow}
+use Rattle.csv_source.specs.ScanView.{GivesRows}
+use Rattle.csv_columns.specs.ScanView.{GivesFront}
 use Rattle.csv_source.specs.declared.refused.CsvRefused.{CsvRefused}
 use Rattle.csv_source.specs.declared.refused.CsvRefused.TheVariants as scan
 use Rattle.logical_plan.specs.Items.{Cells, Item, faults, of_rows}
 use Rattle.logical_plan.specs.declared.plan.Logical.{Logical}
-use Rattle.result_text.specs.RowLines.{Holds}
-use Rattle.result_text.specs.declared.row_lines.RowLines.{RowLines}
 use Rattle.scalar_exprs.specs.declared.refused.EvalRefused.{EvalRefused}
 use Rattle.scalar_exprs.specs.declared.refused.EvalRefused.TheVariants as eval
 use Rattle.scan_run.specs.Chains.{Scanned, scanned, is_chain, is_there, over}
@@ -21,7 +20,7 @@ use Rattle.scan_run.specs.Sources.{item_of, fault_of}
 use Rattle.scan_run.specs.Written.{batch_rows, lines, WroteAll, WroteBefore, WrotePart}
 use Rattle.scan_run.specs.Words.{Adds, Taken, TakenAll, Meets, Writing, of_scan, of_eval, fault_named, items_of_file}
 use Rattle.scan_run.specs.declared.refused.RunRefused.{RunRefused}
-use Rattle.scan_run.proofs.OverLaws.{clean-append, lines-append, clean-nil, lines-nil, over-fault}
+use Rattle.scan_run.proofs.OverLaws.{clean-append, lines-append, clean-nil, lines-nil, over-fault, first_hit}
 
 -- ---- rows as items
 
@@ -32,6 +31,10 @@ oks-append (x ∷ xs) ys rest = ap (λ (t : List csv.Item). Ok x ∷ t) (oks-app
 items-rows : (table file : ℕ) (rs : List Cells) (rest : List csv.Item) → items_of_file table file (map Ok rs ++ rest) ≡ of_rows rs ++ items_of_file table file rest
 items-rows table file [] rest = refl
 items-rows table file (r ∷ rs) rest = ap (λ (t : List Item). Ok r ∷ t) (items-rows table file rs rest)
+
+length-oks : (rs : List Cells) → length (map {B = csv.Item} Ok rs) ≡ length rs
+length-oks [] = refl
+length-oks (r ∷ rs) = ap suc (length-oks rs)
 
 length-rows : (rs : List Cells) → length (of_rows rs) ≡ length rs
 length-rows [] = refl
@@ -48,50 +51,34 @@ lines-more body xs ys = ap (lines body) (rows-more xs ys) ∙ lines-append body 
 
 -- ---- rows of a batch
 
-pub taken_none : (body : Logical) (rest : List csv.Item) (left : Option (List csv.Item)) (made : RowLines) → left ≡ Some rest → Holds made [] → Taken body rest [] 0 left made
-taken_none body rest left made is h = record {
-  rows = [];
-  rest = rest;
-  is = refl;
-  many = refl;
-  left_is = is;
-  clean = clean-nil body;
-  holds = subst (Holds made) (sym (lines-nil body)) h;
+-- the rows that a scan gives stand in front of the items
+pub record Behind (items : List csv.Item) (batch : List Cells) : Type 0 where
+  pub rest : List csv.Item
+  pub is : items ≡ map Ok batch ++ rest
+  pub few : length batch ≤ batch_rows
+
+pub behind_front : (items : List csv.Item) (batch : List Cells) (refusal : Option CsvRefused) (left : Option (List csv.Item)) → GivesFront batch_rows items batch refusal left → Behind items batch
+behind_front items batch None left g =
+    record { rest = drop batch_rows items; is = sym (take-append-drop batch_rows items) ∙ ap (λ (t : List csv.Item). t ++ drop batch_rows items) (sym g.next); few = omega (arith, length-oks batch, ap length g.next, length-take batch_rows items) }
+behind_front items batch (Some e) left g = record { rest = Err e ∷ []; is = g.is; few = (let few : length batch < batch_rows = g.few in omega arith) }
+
+pub taken_batch : {A : Type 0} (done : A) (body : Logical) (items : List csv.Item) (text made : List ℕ) (batch : List Cells) (left : Option (List csv.Item))
+    → GivesRows batch_rows items batch left → length batch ≡ batch_rows → Adds {A = A} (Ok done) (over body (of_rows batch)) text made → Taken body items text batch_rows left made
+taken_batch done body items text made batch left g many a = record {
+  rows = batch;
+  rest = drop batch_rows items;
+  is = sym (take-append-drop batch_rows items) ∙ ap (λ (t : List csv.Item). t ++ drop batch_rows items) (sym g.next);
+  many = many;
+  left_is = g.rest;
+  clean = a.0;
+  made_is = a.1;
 }
 
-pub taken_more : {A : Type 0} (done : A) (body : Logical) (items : List csv.Item) (text : List ℕ) (count : ℕ) (left now : Option (List csv.Item)) (before made : RowLines) (row : Cells)
-    (t : Taken body items text count left before) → GivesRow (Some t.rest) (Some row) now → Adds {A = A} (Ok done) (over body (Ok row ∷ [])) (text ++ lines body (of_rows t.rows)) made
-    → Taken body items text (count + 1) now made
-taken_more done body items text count left None before made row t gives a = absurd gives
-taken_more done body items text count left (Some now) before made row t gives a = record {
-  rows = t.rows ++ row ∷ [];
-  rest = now;
-  is = t.is ∙ ap (λ (x : List csv.Item). map Ok t.rows ++ x) gives ∙ oks-append t.rows (row ∷ []) now;
-  many = length-append t.rows (row ∷ []) ∙ ap (λ n. n + 1) t.many;
-  left_is = refl;
-  clean = clean-more body t.rows (row ∷ []) t.clean a.0;
-  holds = subst (Holds made) (append_assoc text (lines body (of_rows t.rows)) (lines body (Ok row ∷ [])) ∙ ap (λ (x : List ℕ). text ++ x) (sym (lines-more body t.rows (row ∷ [])))) a.1;
-}
-
-pub taken_all : (body : Logical) (items : List csv.Item) (text : List ℕ) (count : ℕ) (left now : Option (List csv.Item)) (made : RowLines)
-    (t : Taken body items text count left made) → GivesRow (Some t.rest) None now → TakenAll body items text made
-taken_all body items text count left now made t gives = record {
-  rows = t.rows;
-  is = t.is ∙ ap (λ (x : List csv.Item). map Ok t.rows ++ x) gives ∙ append-nil (map Ok t.rows);
-  clean = t.clean;
-  holds = t.holds;
-}
-
-meets_next : (body : Logical) (items : List csv.Item) (text : List ℕ) (count table file : ℕ) (left : Option (List csv.Item)) (made : RowLines) (fault : ItemFault) (x : csv.Item) (rest : List csv.Item)
-    (t : Taken body items text count left made) → t.rest ≡ x ∷ rest → count < batch_rows → faults (over body (item_of table file x ∷ [])) ≡ fault ∷ [] → Meets body (items_of_file table file items) fault
-meets_next body items text count table file left made fault x rest t next few hit = record {
-  last = of_rows t.rows ++ item_of table file x ∷ [];
-  left = items_of_file table file rest;
-  is = ap (items_of_file table file) (t.is ∙ ap (λ (y : List csv.Item). map Ok t.rows ++ y) next)
-      ∙ items-rows table file t.rows (x ∷ rest) ∙ sym (append_assoc (of_rows t.rows) (item_of table file x ∷ []) (items_of_file table file rest));
-  few = (let a : length (of_rows t.rows ++ item_of table file x ∷ []) ≡ length (of_rows t.rows) + 1 = length-append (of_rows t.rows) (item_of table file x ∷ []) in let b = length-rows t.rows in let c = t.many in omega arith);
-  met = clean-append body (of_rows t.rows) (item_of table file x ∷ []) t.clean ∙ hit;
-}
+pub taken_last : {A : Type 0} (done : A) (body : Logical) (items : List csv.Item) (text made : List ℕ) (batch : List Cells) (left : Option (List csv.Item))
+    → GivesRows batch_rows items batch left → length batch ≢ batch_rows → Adds {A = A} (Ok done) (over body (of_rows batch)) text made → TakenAll body items text made
+taken_last done body items text made batch left g few a =
+    let short : length items ≤ batch_rows = omega (arith, few, length-oks batch, ap length g.next, length-take batch_rows items) in
+    record { rows = batch; is = sym (take_all batch_rows items short) ∙ sym g.next; clean = a.0; made_is = a.1 }
 
 -- a refusal of the scan that names a fault is of its file
 named_scan : (table file : ℕ) (r : CsvRefused) (fault : ItemFault) → fault_named table (of_scan file r) ≡ Some fault → (is_bad r ≡ true) × (fault_of table file r ≡ fault)
@@ -108,22 +95,42 @@ some_scanned q e = by (scanned q) refl e where
   by None is h = cc
   by (Some s) is h = (s, is)
 
-pub meets_bad : (body : Logical) (items : List csv.Item) (text : List ℕ) (count table file : ℕ) (left : Option (List csv.Item)) (made : RowLines) (fault : ItemFault) (r : CsvRefused)
-    (t : Taken body items text count left made) → is_chain body ≡ true → count < batch_rows → fault_named table (of_scan file r) ≡ Some fault
-    → ((e : CsvRefused) → r ≡ e → is_bad e ≡ true → t.rest ≡ Err e ∷ []) → Meets body (items_of_file table file items) fault
-meets_bad body items text count table file left made fault r t chain few named refuses =
+meets_last : (body : Logical) (items : List csv.Item) (batch : List Cells) (table file : ℕ) (x : csv.Item) (fault : ItemFault) → items ≡ map Ok batch ++ x ∷ [] → length batch < batch_rows
+    → faults (over body (of_rows batch)) ≡ [] → faults (over body (item_of table file x ∷ [])) ≡ fault ∷ [] → Meets body (items_of_file table file items) fault
+meets_last body items batch table file x fault is few clean hit = record {
+  last = of_rows batch ++ item_of table file x ∷ [];
+  left = [];
+  is = ap (items_of_file table file) is ∙ items-rows table file batch (x ∷ []) ∙ sym (append-nil (of_rows batch ++ item_of table file x ∷ []));
+  few = (let a : length (of_rows batch ++ item_of table file x ∷ []) ≡ length (of_rows batch) + 1 = length-append (of_rows batch) (item_of table file x ∷ []) in let b = length-rows batch in omega arith);
+  met = clean-append body (of_rows batch) (item_of table file x ∷ []) clean ∙ hit;
+}
+
+-- the record behind the rows is refused
+pub meets_bad : (body : Logical) (items : List csv.Item) (batch : List Cells) (table file : ℕ) (fault : ItemFault) (r : CsvRefused)
+    → is_chain body ≡ true → faults (over body (of_rows batch)) ≡ [] → fault_named table (of_scan file r) ≡ Some fault
+    → (is_bad r ≡ true → (items ≡ map Ok batch ++ Err r ∷ []) × (length batch < batch_rows)) → Meets body (items_of_file table file items) fault
+meets_bad body items batch table file fault r chain clean named behind =
     let n = named_scan table file r fault named in
     let s = some_scanned body chain in
-    meets_next body items text count table file left made fault (Err r) [] t (refuses r refl n.0) few
+    let b = behind n.0 in
+    meets_last body items batch table file (Err r) fault b.0 b.1 clean
     (ap faults (over-fault (fault_of table file r) body s.0 s.1) ∙ ap (λ (f : ItemFault). f ∷ []) n.1)
 
-pub meets_evaluation : (A : Type 0) (body : Logical) (items : List csv.Item) (text : List ℕ) (count table file : ℕ) (left now : Option (List csv.Item)) (before made : RowLines) (fault : ItemFault) (row : Cells) (r : EvalRefused)
-    (t : Taken body items text count left before) → count < batch_rows → GivesRow (Some t.rest) (Some row) now → fault_named table (of_eval r) ≡ Some fault
-    → Adds {A = A} (Err r) (over body (Ok row ∷ [])) (text ++ lines body (of_rows t.rows)) made → Meets body (items_of_file table file items) fault
-meets_evaluation A body items text count table file left None before made fault row r t few gives named a = absurd gives
-meets_evaluation A body items text count table file left (Some now) before made fault row (eval.Fault f) t few gives named a =
-    meets_next body items text count table file left before fault (Ok row) now t gives few (a ∙ (let same : Evaluation f ≡ fault = (cc) in ap (λ (g : ItemFault). g ∷ []) same))
-meets_evaluation A body items text count table file left (Some now) before made fault row eval.NoMemory t few gives named a = cc
+-- a row meets a fault
+pub meets_evaluation : (A : Type 0) (body : Logical) (items : List csv.Item) (batch : List Cells) (table file : ℕ) (text made : List ℕ) (fault : ItemFault) (r : EvalRefused)
+    → Behind items batch → fault_named table (of_eval r) ≡ Some fault → Adds {A = A} (Err r) (over body (of_rows batch)) text made → Meets body (items_of_file table file items) fault
+meets_evaluation A body items batch table file text made fault (eval.Fault f) b named a =
+    let same : Evaluation f ≡ fault = (cc) in
+    let hit = first_hit body batch (Evaluation f) a.0 a.1 in
+    record {
+      last = of_rows hit.last;
+      left = of_rows hit.left ++ items_of_file table file b.rest;
+      is = ap (items_of_file table file) b.is ∙ items-rows table file batch b.rest ∙ ap (λ (t : List Item). t ++ items_of_file table file b.rest) (ap of_rows hit.is ∙ rows-more hit.last hit.left)
+          ∙ append_assoc (of_rows hit.last) (of_rows hit.left) (items_of_file table file b.rest);
+      few = omega (arith, length-rows hit.last, ap length hit.is, length-append hit.last hit.left, b.few);
+      met = hit.met ∙ ap (λ (g : ItemFault). g ∷ []) same;
+    }
+meets_evaluation A body items batch table file text made fault eval.NoMemory b named a = cc
 
 -- ---- batches of a file
 
@@ -141,7 +148,7 @@ writing_none body items before left told is e = record {
 written-more : (body : Logical) (before : List ℕ) (xs ys : List Cells) → (before ++ lines body (of_rows xs)) ++ lines body (of_rows ys) ≡ before ++ lines body (of_rows (xs ++ ys))
 written-more body before xs ys = append_assoc before (lines body (of_rows xs)) (lines body (of_rows ys)) ∙ ap (λ (t : List ℕ). before ++ t) (sym (lines-more body xs ys))
 
-pub writing_more : (body : Logical) (items : List csv.Item) (before : List ℕ) (left more : Option (List csv.Item)) (told now : Option (List ℕ)) (made : RowLines)
+pub writing_more : (body : Logical) (items : List csv.Item) (before : List ℕ) (left more : Option (List csv.Item)) (told now : Option (List ℕ)) (made : List ℕ)
     (w : Writing body items before left told) (t : Taken body w.rest [] batch_rows more made) → now ≡ Some ((before ++ lines body (of_rows w.rows)) ++ lines body (of_rows t.rows))
     → Writing body items before more now
 writing_more body items before left more told now made w t e = record {
@@ -154,7 +161,7 @@ writing_more body items before left more told now made w t e = record {
   written = e ∙ ap Some (written-more body before w.rows t.rows);
 }
 
-pub writing_last : (body : Logical) (items : List csv.Item) (before : List ℕ) (table file : ℕ) (left : Option (List csv.Item)) (told now : Option (List ℕ)) (made : RowLines)
+pub writing_last : (body : Logical) (items : List csv.Item) (before : List ℕ) (table file : ℕ) (left : Option (List csv.Item)) (told now : Option (List ℕ)) (made : List ℕ)
     (w : Writing body items before left told) (t : TakenAll body w.rest [] made) → now ≡ Some ((before ++ lines body (of_rows w.rows)) ++ lines body (of_rows t.rows))
     → WroteAll body (items_of_file table file items) before now
 writing_last body items before table file left told now made w t e =
@@ -211,25 +218,25 @@ some_written body items before table file now xs ys rest is a b e = record {
 }
 
 -- the lines that a batch was to be given, whether rows may be left or not
-pub record Made (body : Logical) (rest : List csv.Item) (made : RowLines) : Type 0 where
+pub record Made (body : Logical) (rest : List csv.Item) (made : List ℕ) : Type 0 where
   pub rows : List Cells
   pub more : List csv.Item
   pub is : rest ≡ map Ok rows ++ more
   pub clean : faults (over body (of_rows rows)) ≡ []
-  pub holds : Holds made (lines body (of_rows rows))
+  pub made_is : made ≡ lines body (of_rows rows)
 
-made_more : (body : Logical) (rest : List csv.Item) (count : ℕ) (left : Option (List csv.Item)) (made : RowLines) → Taken body rest [] count left made → Made body rest made
-made_more body rest count left made t = record { rows = t.rows; more = t.rest; is = t.is; clean = t.clean; holds = t.holds }
+made_more : (body : Logical) (rest : List csv.Item) (count : ℕ) (left : Option (List csv.Item)) (made : List ℕ) → Taken body rest [] count left made → Made body rest made
+made_more body rest count left made t = record { rows = t.rows; more = t.rest; is = t.is; clean = t.clean; made_is = t.made_is }
 
-made_all : (body : Logical) (rest : List csv.Item) (made : RowLines) → TakenAll body rest [] made → Made body rest made
-made_all body rest made t = record { rows = t.rows; more = []; is = t.is ∙ sym (append-nil (map Ok t.rows)); clean = t.clean; holds = t.holds }
+made_all : (body : Logical) (rest : List csv.Item) (made : List ℕ) → TakenAll body rest [] made → Made body rest made
+made_all body rest made t = record { rows = t.rows; more = []; is = t.is ∙ sym (append-nil (map Ok t.rows)); clean = t.clean; made_is = t.made_is }
 
-pub made_by : (more : Bool) (body : Logical) (rest : List csv.Item) (count : ℕ) (left : Option (List csv.Item)) (made : RowLines)
+pub made_by : (more : Bool) (body : Logical) (rest : List csv.Item) (count : ℕ) (left : Option (List csv.Item)) (made : List ℕ)
     → (more ≡ true → Taken body rest [] count left made) → (more ≡ false → TakenAll body rest [] made) → Made body rest made
 made_by true body rest count left made a b = made_more body rest count left made (a refl)
 made_by false body rest count left made a b = made_all body rest made (b refl)
 
-pub wrote_some : (body : Logical) (items : List csv.Item) (before : List ℕ) (table file : ℕ) (left : Option (List csv.Item)) (told now : Option (List ℕ)) (made : RowLines)
+pub wrote_some : (body : Logical) (items : List csv.Item) (before : List ℕ) (table file : ℕ) (left : Option (List csv.Item)) (told now : Option (List ℕ)) (made : List ℕ)
     (w : Writing body items before left told) (m : Made body w.rest made) → EndsInFront (before ++ lines body (of_rows w.rows)) (lines body (of_rows m.rows)) now → WrotePart body (items_of_file table file items) before now
 wrote_some body items before table file left told now made w m e =
     some_written body items before table file now w.rows m.rows m.more (w.is ∙ ap (λ (x : List csv.Item). map Ok w.rows ++ x) m.is) w.clean m.clean e

@@ -6,3 +6,4 @@ pub mod OpenSteps
 pub mod FileSteps
 pub mod EndSteps
 pub mod TableLaws
+pub mod FrontSteps

@@ -1,12 +1,16 @@
 -- What a chain gives over several items, and its faults.
-use Rattle.std.proofs.Common.{◌≡◌, refl, ℕ, List, [], ◌∷◌, ◌++◌, Some, None, Ok, Err, ap, sym, ◌∙◌, append_assoc, subst}
+use Rattle.std.specs.Prelude.{if◌then◌else◌}
+use Rattle.scalar_exprs.specs.declared.expr.Expr.{Expr}
+use Rattle.scalar_exprs.specs.Eval.{Outcome, eval}
+use Rattle.scalar_exprs.specs.Truth.{is_true}
+use Rattle.std.proofs.Common.{◌≡◌, refl, ℕ, Bool, true, false, List, [], ◌∷◌, ◌++◌, Some, None, Ok, Err, ap, sym, ◌∙◌, append_assoc, subst}
 use Rattle.std.proofs.lemmas.Grind.{flat_map-append}
 use Rattle.std.proofs.lemmas.List.{map-append}
 use Rattle.std.proofs.lemmas.List.Elements.{Contains-append_left}
 use Rattle.std.specs.List.{Contains}
 use Rattle.dfx_value.specs.declared.fault.ItemFault.{ItemFault}
 use Rattle.dfx_value.specs.declared.kind.Kind.{Kind}
-use Rattle.logical_plan.specs.Items.{Cells, Item, rows, faults, filtered, filter_items, projected, project_items}
+use Rattle.logical_plan.specs.Items.{Cells, Item, rows, faults, of_rows, tested, filtered, filter_items, projected, project_items}
 use Rattle.logical_plan.specs.Body.{Tables, scan, body, all_faults}
 use Rattle.logical_plan.specs.declared.plan.Logical.{Logical}
 use Rattle.logical_plan.specs.declared.plan.Logical.TheVariants.{Scan, Filter, Project}
@@ -146,3 +150,72 @@ clean-nil q = ap faults (over-nil q)
 
 pub lines-nil : (q : Logical) → lines q [] ≡ []
 lines-nil q = ap (λ (t : List Item). row_lines (rows t)) (over-nil q)
+
+-- ---- faults one by one
+
+pub faults-two : (q : Logical) (xs ys : List Item) → faults (over q (xs ++ ys)) ≡ faults (over q xs) ++ faults (over q ys)
+faults-two q xs ys = ap faults (over-append xs ys q) ∙ faults-append (over q xs) (over q ys)
+
+-- a chain gives at most one item for one
+abbrev IsFew : List Item → Type 0
+IsFew [] = Rattle.std.specs.Prelude.⊤
+IsFew (x ∷ []) = Rattle.std.specs.Prelude.⊤
+IsFew (x ∷ y ∷ more) = ⊥
+
+module _ (x : Item) where
+  abbrev GivesFew : Logical → Type 0
+  GivesFew q = IsFew (over q (x ∷ []))
+
+  none_few : (xs : List Item) → xs ≡ [] → IsFew xs
+  none_few xs e = rw e tt
+
+  tested_few : (row : Cells) (o : Outcome) → IsFew (tested row o ++ [])
+  tested_few row (Ok v) = elim (is_true v) as (λ (b : Bool). IsFew ((if b then Ok row ∷ [] else []) ++ [])) [ true ↦ tt | false ↦ tt ]
+  tested_few row (Err f) = tt
+
+  filter_few : (test : Expr) (xs : List Item) → IsFew xs → IsFew (filter_items test xs)
+  filter_few test [] h = tt
+  filter_few test (Ok row ∷ []) h = tested_few row (eval row test)
+  filter_few test (Err f ∷ []) h = tt
+  filter_few test (y ∷ z ∷ more) h = absurd h
+
+  project_few : (exprs : List Expr) (xs : List Item) → IsFew xs → IsFew (project_items exprs xs)
+  project_few exprs [] h = tt
+  project_few exprs (y ∷ []) h = tt
+  project_few exprs (y ∷ z ∷ more) h = absurd h
+
+  pub over-few : (q : Logical) → GivesFew q
+  over-few = by_node GivesFew
+      (λ table ks. rw (over-Scan table ks (x ∷ [])) tt)
+      (λ input test h. rw (over-Filter input test (x ∷ [])) (filter_few test (over input (x ∷ [])) h))
+      (λ input items h. rw (over-Project input items (x ∷ [])) (project_few items (over input (x ∷ [])) h))
+      (λ kind left right keys rest. none_few _ (over-Join kind left right keys rest (x ∷ [])))
+      (λ input keys calls. none_few _ (over-Aggregate input keys calls (x ∷ [])))
+      (λ input. none_few _ (over-Distinct input (x ∷ [])))
+      (λ inputs. none_few _ (over-UnionAll inputs (x ∷ [])))
+
+-- the rows up to the one that meets the first fault
+pub record Hit (q : Logical) (batch : List Cells) (f : ItemFault) : Type 0 where
+  pub last : List Cells
+  pub left : List Cells
+  pub is : batch ≡ last ++ left
+  pub met : faults (over q (of_rows last)) ≡ f ∷ []
+
+one_fault : (xs : List Item) (f : ItemFault) (more : List ItemFault) → IsFew xs → faults xs ≡ f ∷ more → faults xs ≡ f ∷ []
+one_fault [] f more h e = cc
+one_fault (Ok row ∷ []) f more h e = cc
+one_fault (Err g ∷ []) f more h e = (let same : g ≡ f = (cc) in ap (λ (x : ItemFault). x ∷ []) same)
+one_fault (x ∷ y ∷ zs) f more h e = absurd h
+
+pub first_hit : (q : Logical) (batch : List Cells) (f : ItemFault) (more : List ItemFault) → faults (over q (of_rows batch)) ≡ f ∷ more → Hit q batch f
+first_hit q [] f more e = (let none : [] ≡ f ∷ more = sym (clean-nil q) ∙ e in cc)
+first_hit q (r ∷ rs) f more e = go (faults (over q (Ok r ∷ []))) refl (λ ms h. first_hit q rs f ms h) (sym (faults-two q (Ok r ∷ []) (of_rows rs)) ∙ e) where
+  go : (fs : List ItemFault) → faults (over q (Ok r ∷ [])) ≡ fs → ((ms : List ItemFault) → faults (over q (of_rows rs)) ≡ f ∷ ms → Hit q rs f)
+      → faults (over q (Ok r ∷ [])) ++ faults (over q (of_rows rs)) ≡ f ∷ more → Hit q (r ∷ rs) f
+  go [] here rest whole =
+      let found = rest more (ap (λ (t : List ItemFault). t ++ faults (over q (of_rows rs))) (sym here) ∙ whole) in
+      record { last = r ∷ found.last; left = found.left; is = ap (λ (t : List Cells). r ∷ t) found.is; met = clean-append q (Ok r ∷ []) (of_rows found.last) here ∙ found.met }
+  go (g ∷ gs) here rest whole =
+      let first : g ∷ (gs ++ faults (over q (of_rows rs))) ≡ f ∷ more = ap (λ (t : List ItemFault). t ++ faults (over q (of_rows rs))) (sym here) ∙ whole in
+      let same : g ≡ f = (cc) in
+      record { last = r ∷ []; left = rs; is = refl; met = one_fault (over q (Ok r ∷ [])) f gs (over-few (Ok r) q) (here ∙ ap (λ (x : ItemFault). x ∷ gs) same) }

@@ -1,21 +1,20 @@
--- What a chain gives for one row, node by node.
-use Rattle.std.proofs.Common.{◌≡◌, refl, ℕ, List, [], ◌∷◌, ◌++◌, map, Option, Result, Ok, Err, ap, sym, ◌∙◌, subst, append_assoc, get_or, drop, length, ◌<◌, ◌+◌}
-use Rattle.std.proofs.lemmas.List.{append-nil, map-append, at_drop_more}
-use Rattle.csv.specs.Records.{fields_of}
-use Rattle.dfx_value.specs.Checked.{◌>>=◌}
-use Rattle.dfx_value.specs.Print.{printed}
-use Rattle.dfx_value.specs.declared.value.Value.{Value}
+-- What a chain gives for one row, node by node, and the lines of rows that are taken one by one.
+use Rattle.std.proofs.Common.{◌≡◌, refl, ℕ, ◌+◌, ◌<◌, ◌≤◌, List, [], ◌∷◌, ◌++◌, length, map, take, drop, get_or, Option, Result, Ok, Err, ap, sym, ◌∙◌, append_assoc, subst}
+use Rattle.std.proofs.lemmas.List.{append-nil, map-append, take_more, take_all, drop_more, take-append-drop}
 use Rattle.dfx_value.specs.declared.fault.EvalFault.{EvalFault}
+use Rattle.dfx_value.specs.declared.fault.ItemFault.{ItemFault}
 use Rattle.dfx_value.specs.declared.fault.ItemFault.TheVariants.{Evaluation}
 use Rattle.scalar_exprs.specs.declared.expr.Expr.{Expr}
 use Rattle.scalar_exprs.specs.declared.refused.EvalRefused.{EvalRefused}
 use Rattle.scalar_exprs.specs.declared.refused.EvalRefused.TheVariants as refused
-use Rattle.scalar_exprs.specs.Eval.{eval, Outcome}
-use Rattle.logical_plan.specs.Items.{Cells, Item, tested, filter_items, projected_row, as_item}
-use Rattle.result_text.specs.AnswerText.{row_line}
-use Rattle.result_text.specs.RowLines.{Holds}
-use Rattle.result_text.specs.declared.row_lines.RowLines.{RowLines}
-use Rattle.scan_run.specs.Words.{Passes, Adds, AddsCells, Projecting, after, one_cell}
+use Rattle.scalar_exprs.specs.Eval.{eval}
+use Rattle.logical_plan.specs.Items.{Cells, Item, tested, filter_items, of_rows, rows, faults}
+use Rattle.logical_plan.specs.declared.plan.Logical.{Logical}
+use Rattle.result_text.specs.AnswerText.{row_line, row_lines}
+use Rattle.scan_run.specs.Chains.{over}
+use Rattle.scan_run.specs.Written.{lines}
+use Rattle.scan_run.specs.Words.{Passes, Adds}
+use Rattle.scan_run.proofs.OverLaws.{clean-append, lines-append, clean-nil, lines-nil, faults-two}
 
 -- a filter over the one row, the fault or nothing
 pub filter_one : (test : Expr) (row : Cells) (items : List Item) → items ≡ Ok row ∷ [] → filter_items test items ≡ tested row (eval row test)
@@ -32,59 +31,48 @@ filter_fault test f items e = ap (filter_items test) e
 
 pub ruleset pass_steps = (filter_passes, filter_none, filter_fault)
 
--- ---- a line of the values of expressions
+-- ---- rows one by one
 
-after-nil : (r : Result Cells EvalFault) → after [] r ≡ r
-after-nil (Ok row) = refl
-after-nil (Err f) = refl
+-- the lines of the rows so far stand behind a text
+pub record Added (body : Logical) (batch : List Cells) (count : ℕ) (text made : List ℕ) : Type 0 where
+  pub clean : faults (over body (of_rows (take count batch))) ≡ []
+  pub made_is : made ≡ text ++ lines body (of_rows (take count batch))
 
-pub projecting_none : (exprs : List Expr) (row : Cells) (text : List ℕ) (made : RowLines) → Holds made text → fields_of made.record ≡ [] → Projecting exprs row exprs text made
-projecting_none exprs row text made h f = record { cells = []; holds = h; fields = f; is = after-nil (projected_row exprs row) }
+pub added_none : (body : Logical) (batch : List Cells) (text : List ℕ) → Added body batch 0 text text
+added_none body batch text = record { clean = clean-nil body; made_is = sym (append-nil text) ∙ ap (λ (t : List ℕ). text ++ t) (sym (lines-nil body)) }
 
-after-more : (cells : Cells) (v : Value) (r : Result Cells EvalFault) → after (cells ++ v ∷ []) r ≡ after cells (r >>= λ vs. Ok (v ∷ vs))
-after-more cells v (Ok row) = ap Ok (append_assoc cells (v ∷ []) row)
-after-more cells v (Err f) = refl
+next-row : (batch : List Cells) (i : ℕ) → i < length batch → of_rows (take (i + 1) batch) ≡ of_rows (take i batch) ++ Ok (get_or batch i []) ∷ []
+next-row batch i low = ap of_rows (take_more batch i [] low) ∙ map-append Ok (take i batch) (get_or batch i [] ∷ [])
 
-with_value : {A : Type 0} (o : Outcome) (done : A) (exprs : List Expr) (row : Cells) (rest : Result Cells EvalFault) (text : List ℕ) (before made : RowLines) (cells : Cells)
-    → fields_of before.record ≡ map printed cells → AddsCells {A = A} (Ok done) (one_cell o) text before made
-    → (more : Cells) × (after more rest ≡ after cells (o >>= λ v. rest >>= λ vs. Ok (v ∷ vs))) × (fields_of made.record ≡ map printed more) × Holds made text
-with_value (Ok v) done exprs row rest text before made cells f a =
-    (cells ++ v ∷ [], after-more cells v rest, a.0 ∙ ap (λ (t : List (List ℕ)). t ++ printed v ∷ []) f ∙ sym (map-append printed cells (v ∷ [])), a.1)
-with_value (Err e) done exprs row rest text before made cells f a = absurd a
+pub added_more : {A : Type 0} (done : A) (body : Logical) (batch : List Cells) (i : ℕ) (text before made : List ℕ) → i < length batch → Added body batch i text before
+    → Adds {A = A} (Ok done) (over body (Ok (get_or batch i []) ∷ [])) before made → Added body batch (i + 1) text made
+added_more done body batch i text before made low h a = record {
+  clean = ap (λ (t : List Item). faults (over body t)) (next-row batch i low) ∙ clean-append body (of_rows (take i batch)) (Ok (get_or batch i []) ∷ []) h.clean ∙ a.0;
+  made_is = a.1 ∙ ap (λ (t : List ℕ). t ++ lines body (Ok (get_or batch i []) ∷ [])) h.made_is ∙ append_assoc text (lines body (of_rows (take i batch))) (lines body (Ok (get_or batch i []) ∷ []))
+      ∙ ap (λ (t : List ℕ). text ++ t) (sym (ap (lines body) (next-row batch i low) ∙ lines-append body (of_rows (take i batch)) (Ok (get_or batch i []) ∷ [])));
+}
 
-pub projecting_more : {A : Type 0} (done : A) (exprs : List Expr) (row : Cells) (e : Expr) (es : List Expr) (text : List ℕ) (before made : RowLines)
-    → Projecting exprs row (e ∷ es) text before → AddsCells {A = A} (Ok done) (one_cell (eval row e)) text before made → Projecting exprs row es text made
-projecting_more done exprs row e es text before made p a =
-    let w = with_value (eval row e) done exprs row (projected_row es row) text before made p.cells p.fields a in
-    record { cells = w.0; holds = w.3; fields = w.2; is = w.1 ∙ p.is }
+pub added_all : {A : Type 0} (done : A) (body : Logical) (batch : List Cells) (i : ℕ) (text made : List ℕ) → length batch ≤ i → Added body batch i text made
+    → Adds {A = A} (Ok done) (over body (of_rows batch)) text made
+added_all done body batch i text made low h =
+    let all : take i batch ≡ batch = take_all i batch low in
+    (ap (λ (t : List Cells). faults (over body (of_rows t))) (sym all) ∙ h.clean, h.made_is ∙ ap (λ (t : List Cells). text ++ lines body (of_rows t)) all)
 
-pub projecting_fault : (A : Type 0) (f : EvalFault) (exprs : List Expr) (row : Cells) (e : Expr) (es : List Expr) (text : List ℕ) (before made : RowLines)
-    → Projecting exprs row (e ∷ es) text before → AddsCells {A = A} (Err (refused.Fault f)) (one_cell (eval row e)) text before made → projected_row exprs row ≡ Err f
-projecting_fault A f exprs row e es text before made p a = sym p.is ∙ stopped (eval row e) a where
-  stopped : (o : Outcome) → one_cell o ≡ Err f → after p.cells (o >>= λ v. projected_row es row >>= λ vs. Ok (v ∷ vs)) ≡ Err f
-  stopped (Ok v) h = cc
-  stopped (Err g) h = (cc)
+-- a row that meets a fault
+pub added_fault : (A B : Type 0) (e : EvalRefused) (body : Logical) (batch : List Cells) (i : ℕ) (text before made now : List ℕ) → i < length batch → Added body batch i text before
+    → Adds {A = A} (Err e) (over body (Ok (get_or batch i []) ∷ [])) before made → Adds {A = B} (Err e) (over body (of_rows batch)) text now
+added_fault A B (refused.Fault f) body batch i text before made now low h a =
+    let split : of_rows batch ≡ of_rows (take i batch) ++ (Ok (get_or batch i []) ∷ of_rows (drop (i + 1) batch)) =
+    ap of_rows (sym (take-append-drop i batch) ∙ ap (λ (t : List Cells). take i batch ++ t) (drop_more batch i [] low)) ∙ map-append Ok (take i batch) (get_or batch i [] ∷ drop (i + 1) batch) in (
+      a.0 ++ faults (over body (of_rows (drop (i + 1) batch))),
+      ap (λ (t : List Item). faults (over body t)) split ∙ clean-append body (of_rows (take i batch)) (Ok (get_or batch i []) ∷ of_rows (drop (i + 1) batch)) h.clean
+          ∙ faults-two body (Ok (get_or batch i []) ∷ []) (of_rows (drop (i + 1) batch)) ∙ ap (λ (t : List ItemFault). t ++ faults (over body (of_rows (drop (i + 1) batch)))) a.1,
+    )
+added_fault A B refused.NoMemory body batch i text before made now low h a = tt
 
-pub projecting_all : (exprs : List Expr) (row : Cells) (text : List ℕ) (made : RowLines) (p : Projecting exprs row [] text made) → projected_row exprs row ≡ Ok p.cells
-projecting_all exprs row text made p = sym p.is ∙ ap Ok (append-nil p.cells)
-
--- what was given as a line
-pub adds_row : {A : Type 0} (done : A) (row : Cells) (item : Item) (text : List ℕ) (made : RowLines) → item ≡ Ok row → Holds made (text ++ row_line row) → Adds {A = A} (Ok done) (item ∷ []) text made
-adds_row done row item text made is h =
-    rw is (refl, subst (λ (t : List ℕ). Holds made (text ++ t)) (sym (append-nil (row_line row))) h)
-
-pub adds_fault : (A : Type 0) (f : EvalFault) (r : Result Cells EvalFault) (text : List ℕ) (made : RowLines) → r ≡ Err f → Adds {A = A} (Err (refused.Fault f)) (as_item r ∷ []) text made
-adds_fault A f r text made is = rw is refl
-
-pub adds_none : {A : Type 0} (done : A) (items : List Item) (text : List ℕ) (made : RowLines) → items ≡ [] → Holds made text → Adds {A = A} (Ok done) items text made
-adds_none done items text made is h = rw is (refl, subst (λ (t : List ℕ). Holds made t) (sym (append-nil text)) h)
-
-pub at_place : {A : Type 0} (xs : List A) (i : ℕ) (x : A) → i < length xs → x ≡ get_or xs i x → drop i xs ≡ x ∷ drop (i + 1) xs
-at_place xs i x low is = at_drop_more (λ ys. ys) xs i x low ∙ ap (λ y. y ∷ drop (i + 1) xs) (sym is)
-
--- a refused value refuses the row
-pub adds_refused : (A B : Type 0) (result : Result A EvalRefused) (e found : EvalRefused) (exprs : List Expr) (row : Cells) (x : Expr) (xs : List Expr) (text : List ℕ) (before made now : RowLines)
-    → result ≡ Err found → found ≡ e → Projecting exprs row (x ∷ xs) text before → AddsCells {A = B} (Err e) (one_cell (eval row x)) text before made → Adds result (as_item (projected_row exprs row) ∷ []) text now
-adds_refused A B result (refused.Fault f) found exprs row x xs text before made now is same p a =
-    rw (is, same) (adds_fault A f (projected_row exprs row) text now (projecting_fault B f exprs row x xs text before made p a))
-adds_refused A B result refused.NoMemory found exprs row x xs text before made now is same p a = rw (is, same) tt
+pub rows_refused : (A B : Type 0) (result : Result A EvalRefused) (e found : EvalRefused) (body : Logical) (batch : List Cells) (i : ℕ) (row : Cells) (text before made now : List ℕ)
+    → result ≡ Err found → found ≡ e → i < length batch → Added body batch i text before → row ≡ get_or batch i []
+    → Adds {A = B} (Err e) (over body (Ok row ∷ [])) before made → Adds result (over body (of_rows batch)) text now
+rows_refused A B result e found body batch i row text before made now is same low h at a =
+    let here : Adds {A = B} (Err e) (over body (Ok (get_or batch i []) ∷ [])) before made = subst (λ (r : Cells). Adds {A = B} (Err e) (over body (Ok r ∷ [])) before made) at a in
+    subst (λ (r : Result A EvalRefused). Adds r (over body (of_rows batch)) text now) (sym (is ∙ ap Err same)) (added_fault B A e body batch i text before made now low h here)

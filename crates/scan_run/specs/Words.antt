@@ -1,6 +1,5 @@
 -- Words: what the steps of a run over a chain tell one another.
-use Rattle.std.specs.Prelude.{ℕ, ◌≡◌, ◌≤◌, ◌%◌, ◌++◌, ◌∷◌, [], List, length, map, take, drop, Option, Some, None, Result, Ok, Err, ⊤}
-use Rattle.csv.specs.Records.{fields_of}
+use Rattle.std.specs.Prelude.{ℕ, ◌≡◌, ◌≤◌, ◌%◌, ◌++◌, ◌∷◌, [], List, length, map, take, drop, Option, Some, None, Result, Ok, Err, All, ⊤}
 use Rattle.csv_source.specs.CsvItems as csv
 use Rattle.csv_source.specs.declared.refused.CsvRefused.{CsvRefused}
 use Rattle.csv_source.specs.declared.refused.CsvRefused.TheVariants as scan
@@ -9,17 +8,16 @@ use Rattle.dfx_outside.specs.declared.files.FilesRefused.TheVariants as opening
 use Rattle.dfx_outside.specs.declared.source.OutsideRefused.{OutsideRefused}
 use Rattle.dfx_outside.specs.declared.source.OutsideRefused.TheVariants as outside
 use Rattle.dfx_value.specs.Checked.{◌>>=◌}
-use Rattle.dfx_value.specs.Print.{printed}
 use Rattle.dfx_value.specs.declared.fault.EvalFault.{EvalFault}
 use Rattle.dfx_value.specs.declared.fault.ItemFault.{ItemFault}
 use Rattle.dfx_value.specs.declared.fault.ItemFault.TheVariants.{Evaluation}
-use Rattle.logical_plan.specs.Items.{Cells, Item, of_rows, rows, faults, concat, projected_row}
+use Rattle.dfx_value.specs.declared.value.Value.{Value}
+use Rattle.column_batch.specs.Batches.{rows_from}
+use Rattle.scan_run.specs.declared.front.Projected.{Projected}
+use Rattle.logical_plan.specs.Items.{Cells, Item, of_rows, rows, faults, concat, as_item, projected_row}
 use Rattle.logical_plan.specs.declared.plan.Logical.{Logical}
 use Rattle.dfx_outside.specs.Contents.{Contents, content}
 use Rattle.result_text.specs.AnswerText.{row_lines}
-use Rattle.result_text.specs.RowLines.{Holds}
-use Rattle.result_text.specs.declared.row_lines.RowLines.{RowLines}
-use Rattle.scalar_exprs.specs.Eval.{Outcome}
 use Rattle.scalar_exprs.specs.declared.expr.Expr.{Expr}
 use Rattle.scalar_exprs.specs.declared.refused.EvalRefused.{EvalRefused}
 use Rattle.scalar_exprs.specs.declared.refused.EvalRefused.TheVariants as eval
@@ -95,48 +93,52 @@ Passes (Err eval.NoMemory) items = ⊤
 abbrev pub after : Cells → Result Cells EvalFault → Result Cells EvalFault
 after front row = row >>= λ more. Ok (front ++ more)
 
-abbrev pub one_cell : Outcome → Result Cells EvalFault
-one_cell o = o >>= λ v. Ok (v ∷ [])
-
--- the fields of these values were added to the line, or their fault was met
-abbrev pub AddsCells : {A : Type 0} → Result A EvalRefused → Result Cells EvalFault → List ℕ → RowLines → RowLines → Type 0
-AddsCells (Ok done) (Ok cells) text before made = (fields_of made.record ≡ fields_of before.record ++ map printed cells) × Holds made text
-AddsCells (Ok done) (Err f) text before made = ⊥
-AddsCells (Err (eval.Fault f)) cells text before made = cells ≡ Err f
-AddsCells (Err eval.NoMemory) cells text before made = ⊤
-
--- the values of the first expressions over a row are the fields of the line, and these expressions are left
-pub record Projecting (exprs : List Expr) (row : Cells) (rest : List Expr) (text : List ℕ) (made : RowLines) : Type 0 where
-  pub cells : Cells
-  pub holds : Holds made text
-  pub fields : fields_of made.record ≡ map printed cells
-  pub is : after cells (projected_row rest row) ≡ projected_row exprs row
-
--- the lines of what was given were added to this text, or its one fault was met
-abbrev pub Adds : {A : Type 0} → Result A EvalRefused → List Item → List ℕ → RowLines → Type 0
-Adds (Ok done) items text made = (faults items ≡ []) × Holds made (text ++ row_lines (rows items))
-Adds (Err (eval.Fault f)) items text made = faults items ≡ Evaluation f ∷ []
+-- the lines of what was given stand behind this text, or its first fault was met
+abbrev pub Adds : {A : Type 0} → Result A EvalRefused → List Item → List ℕ → List ℕ → Type 0
+Adds (Ok done) items text made = (faults items ≡ []) × (made ≡ text ++ row_lines (rows items))
+Adds (Err (eval.Fault f)) items text made = (more : List ItemFault) × (faults items ≡ Evaluation f ∷ more)
 Adds (Err eval.NoMemory) items text made = ⊤
+
+-- ---- rows in columns
+
+abbrev pub BeginsWith : List Value → List Value → Type 0
+BeginsWith values front = take (length front) values ≡ front
+
+-- a fault and what comes behind it, or nothing
+abbrev pub fault_then : Option EvalFault → List Item → List Item
+fault_then None rest = []
+fault_then (Some f) rest = Err (Evaluation f) ∷ rest
+
+-- the rows are the items up to the first fault, and this is that fault
+pub record IsFrontOf (items : List Item) (front : List Cells) (fault : Option EvalFault) : Type 0 where
+  pub rest : List Item
+  pub is : items ≡ of_rows front ++ fault_then fault rest
+
+-- the columns hold the values of the expressions on the first rows, so many, and this is the fault of the row behind them
+pub record IsProjection (exprs : List Expr) (batch : List Cells) (made : Projected) : Type 0 where
+  pub few : made.rows ≤ length batch
+  pub long : All (λ c. made.rows ≤ length c.values) made.columns.items
+  pub front : IsFrontOf (map (λ row. as_item (projected_row exprs row)) batch) (rows_from made.columns.items 0 made.rows) made.fault
 
 -- ---- batches
 
 -- so many rows were taken from a file's items, these items are left, and the lines of what the rows give, without a fault,
--- stand behind a text
-pub record Taken (body : Logical) (items : List csv.Item) (text : List ℕ) (count : ℕ) (left : Option (List csv.Item)) (made : RowLines) : Type 0 where
+-- were put behind a text
+pub record Taken (body : Logical) (items : List csv.Item) (text : List ℕ) (count : ℕ) (left : Option (List csv.Item)) (made : List ℕ) : Type 0 where
   pub rows : List Cells
   pub rest : List csv.Item
   pub is : items ≡ map Ok rows ++ rest
   pub many : length rows ≡ count
   pub left_is : left ≡ Some rest
   pub clean : faults (over body (of_rows rows)) ≡ []
-  pub holds : Holds made (text ++ lines body (of_rows rows))
+  pub made_is : made ≡ text ++ lines body (of_rows rows)
 
 -- all items were rows
-pub record TakenAll (body : Logical) (items : List csv.Item) (text : List ℕ) (made : RowLines) : Type 0 where
+pub record TakenAll (body : Logical) (items : List csv.Item) (text : List ℕ) (made : List ℕ) : Type 0 where
   pub rows : List Cells
   pub is : items ≡ map Ok rows
   pub clean : faults (over body (of_rows rows)) ≡ []
-  pub holds : Holds made (text ++ lines body (of_rows rows))
+  pub made_is : made ≡ text ++ lines body (of_rows rows)
 
 -- a batch of a file's next items meets a fault, its only one, at its end
 pub record Meets (body : Logical) (items : List Item) (fault : ItemFault) : Type 0 where

@@ -1,11 +1,9 @@
 //! The rows of one file, batch by batch, through a chain.
 
-ghost use Rattle.std.specs.Prelude.{◌≡◌, ◌≢◌, ◌<◌, ◌≤◌, ◌+◌, ◌++◌, ℕ, List, [], true, false, Ok, Err, Some, IfErr, OnOk, OnErr, IfOk};
+ghost use Rattle.std.specs.Prelude.{◌==◌, length, ◌≡◌, ◌≢◌, ◌<◌, ◌≤◌, ◌+◌, ◌++◌, ℕ, List, [], true, false, Ok, Err, Some, IfErr, OnOk, OnErr, IfOk};
 ghost use Rattle.csv_source.specs.CsvItems as csv;
-ghost use Rattle.csv_source.specs.ScanView.{left_count};
 ghost use Rattle.dfx_outside.specs.Causes.{Rose};
 ghost use Rattle.dfx_value.specs.declared.fault.ItemFault.{ItemFault};
-ghost use Rattle.result_text.specs.RowLines.{Holds};
 ghost use Rattle.scan_run.specs.Chains.{is_chain};
 ghost use Rattle.scan_run.specs.Written.{batch_rows, WroteAll, WroteBefore, WrotePart};
 ghost use Rattle.scan_run.specs.Words.{Taken, TakenAll, Meets, Writing, fault_named, items_of_file, IsOfRows};
@@ -14,7 +12,8 @@ ghost use Rattle.scan_run.specs.declared.refused.RunRefused.TheVariants as refus
 
 use crate::pass::push_passed;
 use crate::refused::{RunRefused, eval_refused, scan_refused, sink_refused};
-use csv_source::CsvScan;
+use column_batch::Batch;
+use csv_columns::{CsvScan, Front};
 use dfx_outside::{Sink, Source, write_all};
 use logical_plan::Logical;
 use result_text::RowLines;
@@ -23,49 +22,15 @@ use std::alloc::Global;
 /// How many rows go through at a time.
 const BATCH: u32 = 8192;
 
-/// Makes the line of what a chain gives for the next row of a file; false where there is no row left.
-fn push_next<S: Source>(
-    alloc: Global,
-    body: &Logical,
-    file: u32,
-    scan: &mut CsvScan<S>,
-    lines: &mut RowLines,
-) -> Result<bool, RunRefused>
-    requires chain { is_chain body.now ≡ true }
-    requires going { scan.old.refused ≡ false }
-
-    ensures more { (items : List csv.Item) (text : List ℕ) (count : ℕ)
-        → Taken body.now items text count scan.old.left lines.old
-        → result ≡ Ok true → Taken body.now items text (count + 1) scan.new.left lines.new }
-    ensures last { (items : List csv.Item) (text : List ℕ) (count : ℕ)
-        → Taken body.now items text count scan.old.left lines.old
-        → result ≡ Ok false → TakenAll body.now items text lines.new }
-    ensures met { (items : List csv.Item) (text : List ℕ) (count table : ℕ) (e : Refusal)
-        (fault : ItemFault) → Taken body.now items text count scan.old.left lines.old
-        → count < batch_rows → result ≡ Err e → fault_named table e ≡ Some fault
-        → Meets body.now (items_of_file table file items) fault }
-
-    ensures kind { IfErr result (IsOfRows file) }
-    ensures calm { result ≢ Err refused.Write }
-    ensures going { OnOk result (scan.new.refused ≡ false) }
-    ensures falls { result ≡ Ok true → left_count scan.new.left < left_count scan.old.left }
-    ensures read { result ≡ Err refused.Read
-        → Rose (S.faults scan.old.source) (S.faults scan.new.source) }
-    ensures later { S.faults scan.old.source ≤ S.faults scan.new.source }
+/// Whether a batch is whole: only such a one may have rows behind it.
+fn is_whole(batch: &Batch) -> bool
+    ensures { result ≡ (length batch.now.rows == batch_rows) }
 {
-    let row = match scan.next_row() {
-        Ok(Some(row)) => row,
-        Ok(None) => return Ok(false),
-        Err(refused) => return Err(scan_refused(file, refused)),
-    };
-    match push_passed(alloc, body, row, lines) {
-        Ok(()) => Ok(true),
-        Err(refused) => Err(eval_refused(refused)),
-    }
+    batch.rows() == BATCH
 }
 
-/// Makes the lines of what a chain gives for the next rows of a file, a batch of them or all that are left; tells whether rows
-/// may be left.
+/// Appends the lines of what a chain gives for the next rows of a file, a batch of them or all that are left; tells whether
+/// rows may be left.
 fn push_batch<S: Source>(
     alloc: Global,
     body: &Logical,
@@ -76,32 +41,34 @@ fn push_batch<S: Source>(
     requires chain { is_chain body.now ≡ true }
     requires going { scan.old.refused ≡ false }
 
-    ensures more { (items : List csv.Item) (text : List ℕ)
-        → Taken body.now items text 0 scan.old.left lines.old
-        → result ≡ Ok true → Taken body.now items text batch_rows scan.new.left lines.new }
-    ensures last { (items : List csv.Item) (text : List ℕ)
-        → Taken body.now items text 0 scan.old.left lines.old
-        → result ≡ Ok false → TakenAll body.now items text lines.new }
-    ensures met { (items : List csv.Item) (text : List ℕ) (table : ℕ) (e : Refusal)
-        (fault : ItemFault)
-        → Taken body.now items text 0 scan.old.left lines.old
-        → result ≡ Err e → fault_named table e ≡ Some fault
+    ensures more { (items : List csv.Item) → scan.old.left ≡ Some items → result ≡ Ok true
+        → Taken body.now items lines.old batch_rows scan.new.left lines.new }
+    ensures last { (items : List csv.Item) → scan.old.left ≡ Some items → result ≡ Ok false
+        → TakenAll body.now items lines.old lines.new }
+    ensures met { (items : List csv.Item) (table : ℕ) (e : Refusal) (fault : ItemFault)
+        → scan.old.left ≡ Some items → result ≡ Err e → fault_named table e ≡ Some fault
         → Meets body.now (items_of_file table file items) fault }
 
     ensures kind { IfErr result (IsOfRows file) }
     ensures calm { result ≢ Err refused.Write }
     ensures going { OnOk result (scan.new.refused ≡ false) }
-    ensures falls { result ≡ Ok true → left_count scan.new.left < left_count scan.old.left }
+    ensures falls { result ≡ Ok true → scan.new.most < scan.old.most }
     ensures read { result ≡ Err refused.Read
         → Rose (S.faults scan.old.source) (S.faults scan.new.source) }
     ensures later { S.faults scan.old.source ≤ S.faults scan.new.source }
 {
-    for _at in 0..BATCH {
-        if !push_next(alloc, body, file, scan, lines)? {
-            return Ok(false);
-        }
+    let Front { batch, refused } = match scan.next_front(BATCH) {
+        Ok(front) => front,
+        Err(refused) => return Err(scan_refused(file, refused)),
+    };
+    match push_passed(alloc, body, &batch, lines) {
+        Ok(()) => {}
+        Err(refused) => return Err(eval_refused(refused)),
     }
-    Ok(true)
+    match refused {
+        None => Ok(is_whole(&batch)),
+        Some(refused) => Err(scan_refused(file, refused)),
+    }
 }
 
 /// Writes the lines of what a chain gives for the next batch of a file, and tells whether rows may be left.
@@ -110,6 +77,7 @@ fn write_batch<S: Source, K: Sink>(
     body: &Logical,
     file: u32,
     scan: &mut CsvScan<S>,
+    lines: &mut RowLines,
     sink: &mut K,
 ) -> Result<bool, RunRefused>
     requires chain { is_chain body.now ≡ true }
@@ -134,19 +102,16 @@ fn write_batch<S: Source, K: Sink>(
 
     ensures kind { IfErr result (IsOfRows file) }
     ensures going { OnOk result (scan.new.refused ≡ false) }
-    ensures falls { result ≡ Ok true → left_count scan.new.left < left_count scan.old.left }
+    ensures falls { result ≡ Ok true → scan.new.most < scan.old.most }
     ensures read { result ≡ Err refused.Read
         → Rose (S.faults scan.old.source) (S.faults scan.new.source) }
     ensures write { result ≡ Err refused.Write → Rose (K.faults sink.old) (K.faults sink.new) }
     ensures later { (S.faults scan.old.source ≤ S.faults scan.new.source)
         × (K.faults sink.old ≤ K.faults sink.new) }
 {
-    let mut lines = RowLines::new(alloc);
-    let more = push_batch(alloc, body, file, scan, &mut lines)?;
-    let Ok(text) = lines.into_bytes() else {
-        return Err(RunRefused::NoMemory);
-    };
-    match write_all(sink, text.as_slice()) {
+    lines.clear();
+    let more = push_batch(alloc, body, file, scan, lines)?;
+    match write_all(sink, lines.as_slice()) {
         Ok(()) => Ok(more),
         Err(refused) => Err(sink_refused(refused)),
     }
@@ -184,9 +149,10 @@ pub(crate) fn write_rows<S: Source, K: Sink>(
     ensures later { (S.faults scan.old.source ≤ S.faults scan.new.source)
         × (K.faults sink.old ≤ K.faults sink.new) }
 {
+    let mut lines = RowLines::new(alloc);
     let mut more = true;
     while more {
-        more = write_batch(alloc, body, file, scan, sink)?;
+        more = write_batch(alloc, body, file, scan, &mut lines, sink)?;
     }
     Ok(())
 }

@@ -3,6 +3,8 @@
 
 mod batches;
 mod chain;
+mod columns;
+mod front;
 mod opened;
 mod pass;
 mod refused;

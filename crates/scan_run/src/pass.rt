@@ -1,16 +1,15 @@
-//! What a chain gives for one row.
+//! The lines of what a chain gives for the rows of a batch.
 
-ghost use Rattle.std.specs.Prelude.{◌≡◌, ◌++◌, ◌∷◌, [], ℕ, List, Ok, OnOk};
-ghost use Rattle.csv.specs.Records.{fields_of};
-ghost use Rattle.dfx_value.specs.Print.{printed};
-ghost use Rattle.dfx_value.specs.Rows.{cell};
+ghost use Rattle.std.specs.Prelude.{◌∷◌, [], List, Ok};
 ghost use Rattle.logical_plan.specs.Items as item;
-ghost use Rattle.result_text.specs.RowLines.{Holds};
+ghost use Rattle.logical_plan.specs.Items.{Item, of_rows};
 ghost use Rattle.scalar_exprs.specs.Eval as value;
 ghost use Rattle.scan_run.specs.Chains.{over};
-ghost use Rattle.scan_run.specs.Words.{Passes, Adds, AddsCells, one_cell};
+ghost use Rattle.scan_run.specs.Words.{Passes, Adds, IsFrontOf};
 
-use dfx_value::{NoMemory, Row, Value};
+use crate::front::{Front, pass_batch};
+use column_batch::Batch;
+use dfx_value::{Row, Value};
 use logical_plan::Logical;
 use result_text::RowLines;
 use scalar_exprs::{EvalRefused, Expr, eval};
@@ -71,84 +70,14 @@ fn pass(alloc: Global, body: &Logical, row: Row) -> Result<Option<Row>, EvalRefu
     }
 }
 
-/// Puts the cell of a column at the end of the line.
-fn push_cell(row: &Row, column: u32, lines: &mut RowLines) -> Result<(), NoMemory>
-    ensures text { (text : List ℕ) → Holds lines.old text → OnOk result (Holds lines.new text) }
-    ensures fields { (text : List ℕ) → Holds lines.old text
-        → OnOk result
-        (fields_of lines.new.record
-        ≡ fields_of lines.old.record ++ printed (cell row.now column) ∷ []) }
-{
-    match row.cells.get(column as usize) {
-        Some(value) => lines.push(value),
-        None => lines.push(&Value::Null),
-    }
-}
-
-/// Puts the value of an expression over a row at the end of the line. A cell of the row isn't copied for it.
-#[tactic(auto, using(scalar_exprs::proofs::EvalLemmas::evals))]
-fn push_value(
-    alloc: Global,
-    expr: &Expr,
-    row: &Row,
-    lines: &mut RowLines,
-) -> Result<(), EvalRefused>
-    ensures { (text : List ℕ) → Holds lines.old text
-        → AddsCells result (one_cell (value.eval row.now expr.now)) text lines.old lines.new }
-{
-    match expr {
-        Expr::Column(column) => push_cell(row, *column, lines)?,
-        _ => {
-            let value = eval(alloc, expr, row)?;
-            lines.push(&value)?;
-        }
-    }
-    Ok(())
-}
-
-/// Makes a line of the values of expressions over a row.
-fn push_projected(
-    alloc: Global,
-    exprs: &[Expr],
-    row: &Row,
-    lines: &mut RowLines,
-) -> Result<(), EvalRefused>
-    ensures { (text : List ℕ) → Holds lines.old text
-        → Adds result (item.as_item (item.projected_row exprs.now row.now) ∷ []) text lines.new }
-{
-    lines.begin();
-    for expr in exprs {
-        push_value(alloc, expr, row, lines)?;
-    }
-    Ok(lines.end()?)
-}
-
-/// Makes a line of what a chain gives for a row of its Scan, and then expressions, if it gives a row.
-fn push_through(
-    alloc: Global,
-    input: &Logical,
-    exprs: &[Expr],
-    row: Row,
-    lines: &mut RowLines,
-) -> Result<(), EvalRefused>
-    ensures { (text : List ℕ) → Holds lines.old text
-        → Adds result (item.project_items exprs.now (over input.now (Ok row ∷ []))) text lines.new }
-{
-    match pass(alloc, input, row)? {
-        Some(row) => push_projected(alloc, exprs, &row, lines),
-        None => Ok(()),
-    }
-}
-
-/// Makes a line of the row that a chain gives for a row of its Scan, if it gives one.
-fn push_given(
+/// Appends the line of the row that a chain gives for a row of its Scan, if it gives one.
+fn push_row(
     alloc: Global,
     body: &Logical,
     row: Row,
     lines: &mut RowLines,
 ) -> Result<(), EvalRefused>
-    ensures { (text : List ℕ) → Holds lines.old text
-        → Adds result (over body.now (Ok row ∷ [])) text lines.new }
+    ensures { Adds result (over body.now (Ok row ∷ [])) lines.old lines.new }
 {
     match pass(alloc, body, row)? {
         Some(row) => Ok(lines.push_row(&row)?),
@@ -156,21 +85,45 @@ fn push_given(
     }
 }
 
-/// Makes a line of what a chain gives for a row of its Scan, if it gives a row.
-#[tactic(auto, using(crate::proofs::ChainSteps::overs, crate::proofs::PassSteps::pass_steps))]
+/// Appends the lines of what a chain gives for the rows of a batch, row by row.
+fn push_rows(
+    alloc: Global,
+    body: &Logical,
+    batch: &Batch,
+    lines: &mut RowLines,
+) -> Result<(), EvalRefused>
+    ensures { Adds result (over body.now (of_rows batch.now.rows)) lines.old lines.new }
+{
+    for at in 0..batch.rows() {
+        push_row(alloc, body, batch.row(alloc, at)?, lines)?;
+    }
+    Ok(())
+}
+
+/// Appends the lines of what a chain gives for the rows of a batch. Where the values of an expression aren't seen to be of
+/// one kind, and so make no column, its rows are taken one by one.
 pub(crate) fn push_passed(
     alloc: Global,
     body: &Logical,
-    row: Row,
+    batch: &Batch,
     lines: &mut RowLines,
 ) -> Result<(), EvalRefused>
-    ensures { (text : List ℕ) → Holds lines.old text
-        → Adds result (over body.now (Ok row ∷ [])) text lines.new }
+    ensures { Adds result (over body.now (of_rows batch.now.rows)) lines.old lines.new }
 {
-    match body {
-        Logical::Project { input, items } => {
-            push_through(alloc, input.get(), items.as_slice(), row, lines)
-        }
-        _ => push_given(alloc, body, row, lines),
+    match pass_batch(alloc, body, batch)? {
+        Some(front) => push_front(&front, lines),
+        None => push_rows(alloc, body, batch, lines),
+    }
+}
+
+/// Appends the lines of rows, and answers the fault behind them.
+fn push_front(front: &Front, lines: &mut RowLines) -> Result<(), EvalRefused>
+    ensures { (items : List Item) → IsFrontOf items front.now.batch.rows front.now.fault
+        → Adds result items lines.old lines.new }
+{
+    lines.push_batch(&front.batch)?;
+    match front.fault {
+        None => Ok(()),
+        Some(fault) => Err(EvalRefused::Fault(fault)),
     }
 }

@@ -21,7 +21,7 @@ use crate::batches::write_rows;
 use crate::chain::scan_kinds;
 use crate::opened::{close_all, open_all};
 use crate::refused::{RunRefused, sink_refused};
-use csv_source::CsvScan;
+use csv_columns::CsvScan;
 use dfx_outside::{Files, Sink, Source, write_all};
 use dfx_value::Text;
 use logical_plan::{Logical, Query};

@@ -15,16 +15,16 @@ use Rattle.sql_binder.specs.Each.{each_after}
 use Rattle.sql_binder.specs.Unions.{Placed}
 use Rattle.sql_tables.specs.declared.table.Table.{Table}
 use Rattle.sql_binder.specs.Sources.{Reading, Joining, table, derived, from, filtered}
-use Rattle.sql_binder.specs.Selects.{Selecting, placed, reading, joining, selecting, select, reading_of, joining_of, union_of, selected, parts}
+use Rattle.sql_binder.specs.Selects.{Selecting, placed, reading, joining, selecting, select, reading_of, joining_of, union_of, selected, select_parts}
 
-select-out : (tables : List Table) (s : SelectAst) → select tables s ≡ record { place = (out-SelectAst s).place; select = from (reading_of tables (out-SelectAst s).first) (map (joining_of tables) (out-SelectAst s).joins) >>= filtered (out-SelectAst s).test >>= selected (parts s) }
+select-out : (tables : List Table) (s : SelectAst) → select tables s ≡ record { place = (out-SelectAst s).place; select = from (reading_of tables (out-SelectAst s).first) (map (joining_of tables) (out-SelectAst s).joins) >>= filtered (out-SelectAst s).test >>= selected (select_parts s) }
 unfolding select reading_of joining_of
 select-out tables s = fold_out-SelectAst Reading Joining Selecting (reading tables) joining selecting s
 
 pub select-place : (tables : List Table) (s : SelectAst) → (select tables s).place ≡ (out-SelectAst s).place
 select-place tables s = ap (λ (x : Selecting). x.place) (select-out tables s)
 
-pub select-select : (tables : List Table) (s : SelectAst) → (select tables s).select ≡ from (reading_of tables (out-SelectAst s).first) (map (joining_of tables) (out-SelectAst s).joins) >>= filtered (out-SelectAst s).test >>= selected (parts s)
+pub select-select : (tables : List Table) (s : SelectAst) → (select tables s).select ≡ from (reading_of tables (out-SelectAst s).first) (map (joining_of tables) (out-SelectAst s).joins) >>= filtered (out-SelectAst s).test >>= selected (select_parts s)
 select-select tables s = ap (λ (x : Selecting). x.select) (select-out tables s)
 
 joining-out : (tables : List Table) (j : JoinAst) → joining_of tables j ≡ record { kind = (out-JoinAst j).kind; right = reading_of tables (out-JoinAst j).right; on = (out-JoinAst j).on }

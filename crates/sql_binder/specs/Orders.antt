@@ -83,8 +83,8 @@ whole_below (Some (pos n)) = Some n
 whole_below _ = None
 
 -- a whole number below 2^63
-abbrev pub whole : List ℕ → Option ℕ
-whole text = whole_below (int_of text)
+abbrev pub whole_number : List ℕ → Option ℕ
+whole_number text = whole_below (int_of text)
 
 -- a position, from 1
 abbrev pub position : ℕ → ℕ → Option ℕ → Answer ℕ
@@ -94,7 +94,7 @@ position width place _ = refuse why.UnknownColumn place
 abbrev pub column_of_key : List (List ℕ) → Option Single → ExprAst → Answer ℕ
 column_of_key names single e = of_node (out-NodeAst (out-ExprAst e).node) where
   of_node : NodeAst-F NodeAst ExprAst → Answer ℕ
-  of_node (NodeAst-F.Number text) = if has_point text then item_of single e else position (length names) (place_of e) (whole text)
+  of_node (NodeAst-F.Number text) = if has_point text then item_of single e else position (length names) (place_of e) (whole_number text)
   of_node (NodeAst-F.Name None name) = named_or (named_from 0 name names) (place_of e) (item_of single e)
   of_node _ = item_of single e
 
@@ -110,7 +110,7 @@ order names single keys = each (key_of names single) keys
 -- ---- numbers of rows
 
 abbrev pub number : NumberAst → Answer ℕ
-number n = or_refuse why.LimitRange n.place (whole n.text)
+number n = or_refuse why.LimitRange n.place (whole_number n.text)
 
 abbrev pub limit : Option NumberAst → Answer (Option ℕ)
 limit None = Ok None

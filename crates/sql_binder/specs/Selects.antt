@@ -102,8 +102,8 @@ joining j = record { kind = j.kind; right = j.right; on = j.on }
 abbrev pub parts_of : {A B C : Type 0} → SelectAst-F A B C → Parts
 parts_of s = record { distinct = s.distinct; items = s.items; groups = s.groups; having = s.having }
 
-abbrev pub parts : SelectAst → Parts
-parts s = parts_of (out-SelectAst s)
+abbrev pub select_parts : SelectAst → Parts
+select_parts s = parts_of (out-SelectAst s)
 
 abbrev pub selecting : SelectAst-F Reading Joining Selecting → Selecting
 selecting s = record { place = s.place; select = from s.first s.joins >>= filtered s.test >>= selected (parts_of s) }

@@ -91,12 +91,12 @@ abbrev pub joined_on : JoinKind → Source → Source → ExprAst → Answer Sou
 joined_on kind left right on = joined_body kind (side left) (side right) (left.columns ++ right.columns) on >>= λ body.
     Ok (record { columns = left.columns ++ right.columns; body = body })
 
-abbrev pub joined : Source → Joining → Answer Source
-joined left j = under_new_alias left.columns j.right >>= λ right. joined_on j.kind left right j.on
+abbrev pub joined_source : Source → Joining → Answer Source
+joined_source left j = under_new_alias left.columns j.right >>= λ right. joined_on j.kind left right j.on
 
 abbrev pub all_joined : Source → List Joining → Answer Source
 all_joined left [] = Ok left
-all_joined left (j ∷ js) = joined left j >>= λ next. all_joined next js
+all_joined left (j ∷ js) = joined_source left j >>= λ next. all_joined next js
 
 abbrev pub from : Reading → List Joining → Answer Source
 from first joins = under_new_alias [] first >>= λ left. all_joined left joins

@@ -32,7 +32,7 @@ pub fn bind_clauses(
     calls: &[ExprAst],
     columns: &[Column],
 ) -> Result<Clauses, Unbound>
-    ensures { Gives result (spec.clauses (spec.parts select.now) calls.now columns.now) }
+    ensures { Gives result (spec.clauses (spec.select_parts select.now) calls.now columns.now) }
 {
     let keys = keys(alloc, columns, select.groups.as_slice())?;
     let kinds = key_kinds(alloc, keys.as_slice())?;

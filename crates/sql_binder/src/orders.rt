@@ -127,8 +127,8 @@ fn number_of_name(names: &[Text], name: &Text, first: usize) -> Option<usize>
 
 /// A whole number below 2^63.
 #[tactic(auto, unfolding(dfx_value::specs::Parse::int_of, dfx_value::specs::Parse::natural))]
-fn whole(alloc: Global, text: &Text) -> Result<Option<u64>, NoMemory>
-    ensures { IfOk result (λ n. n ≡ spec.whole text.now) }
+fn whole_number(alloc: Global, text: &Text) -> Result<Option<u64>, NoMemory>
+    ensures { IfOk result (λ n. n ≡ spec.whole_number text.now) }
 {
     match parse_value(alloc, text.bytes(), Kind::Int) {
         Ok(Value::Int(number)) => Ok(u64::try_from(number).ok()),
@@ -140,9 +140,9 @@ fn whole(alloc: Global, text: &Text) -> Result<Option<u64>, NoMemory>
 
 /// A position, from 1.
 fn position(alloc: Global, width: usize, text: &Text, place: u32) -> Result<usize, Unbound>
-    ensures { Gives result (spec.position width place (spec.whole text.now)) }
+    ensures { Gives result (spec.position width place (spec.whole_number text.now)) }
 {
-    match whole(alloc, text)? {
+    match whole_number(alloc, text)? {
         Some(number) if number > 0 && number <= width as u64 => Ok(number as usize - 1),
         _ => Err(Unbound::from(Refusal::new(Why::UnknownColumn, place))),
     }
@@ -233,7 +233,7 @@ pub fn order(
 fn number(alloc: Global, number: &NumberAst) -> Result<u64, Unbound>
     ensures { Gives result (spec.number number.now) }
 {
-    match whole(alloc, &number.text)? {
+    match whole_number(alloc, &number.text)? {
         Some(rows) => Ok(rows),
         None => Err(Unbound::from(Refusal::new(Why::LimitRange, number.place))),
     }

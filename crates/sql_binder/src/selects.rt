@@ -89,7 +89,7 @@ fn grouped(
     calls: &[ExprAst],
     source: Source,
 ) -> Result<Selected, Unbound>
-    ensures { Gives result (spec.grouped (spec.parts select.now) calls.now source) }
+    ensures { Gives result (spec.grouped (spec.select_parts select.now) calls.now source) }
 {
     let Source { columns, body } = source;
     let bound = bind_clauses(alloc, select, calls, columns.as_slice())?;
@@ -105,7 +105,7 @@ fn grouped(
 
 /// A select behind FROM and WHERE.
 fn selected(alloc: Global, select: &SelectAst, source: Source) -> Result<Selected, Unbound>
-    ensures { Gives result (spec.selected (spec.parts select.now) source) }
+    ensures { Gives result (spec.selected (spec.select_parts select.now) source) }
 {
     let items = select.items.as_slice();
     let found = calls(alloc, source.columns.as_slice(), items, &select.having)?;
@@ -172,7 +172,7 @@ fn read_join(
     join: &JoinAst,
     left: Source,
 ) -> Result<Source, Unbound>
-    ensures { Gives result (sources.joined left (spec.joining_of tables.now join.now)) }
+    ensures { Gives result (sources.joined_source left (spec.joining_of tables.now join.now)) }
 {
     let right = read(alloc, tables, left.columns.as_slice(), &join.right)?;
     join_sources(alloc, join.kind, left, right, &join.on)

@@ -9,7 +9,7 @@ use Rattle.sql_grammar.specs.declared.ast.ItemAst.TheVariants as item
 use Rattle.sql_grammar.specs.Class.{Token, Tokens, among, starts}
 use Rattle.sql_grammar.specs.Reader.{Read, terminal, matching, maybe, stop, done, unexpected, and_then, restore, turns, pure}
 use Rattle.sql_grammar.specs.Grammar.{Limits, Calls, no_call, one_argument, counts, calls, one, constants, names, additive, multiplicative}
-use Rattle.sql_grammar.specs.Reading.{Readers, expr_first, called_first, called, qualified, plain, after, named, prim, unary_of, operation, product_of, sum_of, suffix, test_of, negation_of, conjunction, disjunction, whole, all_of_item, one_item, all_of_ahead}
+use Rattle.sql_grammar.specs.Reading.{Readers, expr_first, called_first, called, qualified, plain, after, named, prim, unary_of, operation, product_of, sum_of, suffix, test_of, negation_of, conjunction, disjunction, whole_expr, all_of_item, one_item, all_of_ahead}
 use Rattle.sql_grammar.proofs.Classes.{apart_at, Alike, starts-alike, and_left, and_right, no-covers}
 
 module _ (l : Limits) (d : ℕ) (f : Readers) (t dd ss : Token) (rest : Tokens) (is_name : among t.class names ≡ true) (is_dot : among dd.class (one c.Dot) ≡ true) (is_star : among ss.class (one c.Star) ≡ true) where
@@ -96,8 +96,8 @@ module _ (l : Limits) (d : ℕ) (f : Readers) (t dd ss : Token) (rest : Tokens) 
   unfolding disjunction
   expr_stops n = ap (λ r. and_then r (λ x. turns (one c.Or) (operation l d f (one c.Or) (conjunction l d f)) x)) (and_stops n)
 
-  whole_stops : (n : ℕ) → whole l d f n ts ≡ refused
-  unfolding whole
+  whole_stops : (n : ℕ) → whole_expr l d f n ts ≡ refused
+  unfolding whole_expr
   whole_stops n = ap (restore n) (expr_stops 0)
 
   item_stops : (n : ℕ) → one_item l d f n ts ≡ refused

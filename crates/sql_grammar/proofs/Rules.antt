@@ -12,7 +12,7 @@ use Rattle.sql_grammar.specs.Trees.{is_within, small}
 use Rattle.sql_grammar.specs.Grammar as p
 use Rattle.sql_grammar.specs.Grammar.{Levels, Limits, Calls, no_call, one_argument, counts, calls, one, constants, names, additive, multiplicative, comparing, tests, simple_types, sides, forms}
 use Rattle.sql_grammar.specs.Reading as r
-use Rattle.sql_grammar.specs.Reading.{Readers, prim_first, unary_first, expr_first, item_first, called_first, join_first, number_from, decimal, simple_type, type_name, called, column, setting, header_row, columns_of, settings, create, declared, parenthesized, arm, other, case_of, converted, cast, arguments, coalesce, qualified, bare, call, argument, count_all, star_or, counted, plain, after, named, constant, prim, negative, unary_of, operation, product_of, sum_of, is_null, member, members, among_of, between_of, within, suffix, test_of, negated, negation_of, conjunction, disjunction, whole, all_item, all_of_item, one_item, named_item, select_item, table_name, nested, derived_table, from_of, inner_join, outer_join, plain_join, join_words, join_of, where_of, group_by, having_of, select, united, union_of, nulls_order, key, order_by, number}
+use Rattle.sql_grammar.specs.Reading.{Readers, prim_first, unary_first, expr_first, item_first, called_first, join_first, number_from, decimal, simple_type, type_name, called, column, setting, header_row, columns_of, settings, create, declared, parenthesized, arm, other, case_of, converted, cast, arguments, coalesce, qualified, bare, call, argument, count_all, star_or, counted, plain, after, named, constant, prim, negative, unary_of, operation, product_of, sum_of, is_null, member, members, among_of, between_of, within, suffix, test_of, negated, negation_of, conjunction, disjunction, whole_expr, all_item, all_of_item, one_item, named_item, select_item, table_name, nested, derived_table, from_of, inner_join, outer_join, plain_join, join_words, join_of, where_of, group_by, having_of, select, united, union_of, nulls_order, key, order_by, number}
 use Rattle.sql_grammar.proofs.Laws.{Laws, Shape, Sample, shaped, loosely, seq, alt, widen, loosen, word, terminal_laws, matching_laws, empty_laws, count_laws}
 use Rattle.sql_grammar.proofs.Turning.{repeated}
 use Rattle.sql_grammar.proofs.Limiting.{nest, opt, list, paid, own, listing_laws, sample_seq, sample_empty, sample_word, sample_turns, sample_right, sample_paid, sample_no_more, sample_list}
@@ -330,6 +330,6 @@ module _ (l : Limits) (d : ℕ) (L M : Levels) (f F : Readers)
   unfolding disjunction
   expr_laws = widen (seq and_laws (λ x. repeated either_laws refl refl x) refl) expr_first expr_on refl refl refl refl
 
-  pub whole_laws : Laws (p.Expr l d L) (p.Expr w (suc d) M) (r.whole l d f) (r.whole w (suc d) F) expr_s
-  unfolding whole
+  pub whole_laws : Laws (p.Expr l d L) (p.Expr w (suc d) M) (r.whole_expr l d f) (r.whole_expr w (suc d) F) expr_s
+  unfolding whole_expr
   whole_laws = own expr_laws

@@ -10,7 +10,7 @@ use Rattle.sql_grammar.specs.Reader.{inside}
 use Rattle.sql_grammar.specs.Grammar as p
 use Rattle.sql_grammar.specs.Grammar.{Levels, Limits, one, names, sides}
 use Rattle.sql_grammar.specs.Reading as r
-use Rattle.sql_grammar.specs.Reading.{Readers, expr_first, item_first, called_first, join_first, called, whole, all_item, all_of_item, one_item, named_item, all_of_ahead, select_item, table_name, nested, derived_table, from_of, inner_join, outer_join, plain_join, join_words, join_of, where_of, group_by, having_of, select, united, union_of, nulls_order, key, order_by, number}
+use Rattle.sql_grammar.specs.Reading.{Readers, expr_first, item_first, called_first, join_first, called, whole_expr, all_item, all_of_item, one_item, named_item, all_of_ahead, select_item, table_name, nested, derived_table, from_of, inner_join, outer_join, plain_join, join_words, join_of, where_of, group_by, having_of, select, united, union_of, nulls_order, key, order_by, number}
 use Rattle.sql_grammar.proofs.Classes.{starts-covers}
 use Rattle.sql_grammar.proofs.Laws.{Laws, Sample, shaped, seq, alt, widen, word, terminal_laws, empty_laws}
 use Rattle.sql_grammar.proofs.Turning.{repeated}
@@ -31,7 +31,7 @@ module _ (l : Limits) (d : ℕ) (L M : Levels) (f F : Readers)
   abbrev w : Limits
   w = wider l
 
-  expr_laws : Laws (p.Expr l d L) (p.Expr w (suc d) M) (r.whole l d f) (r.whole w (suc d) F) expr_s
+  expr_laws : Laws (p.Expr l d L) (p.Expr w (suc d) M) (r.whole_expr l d f) (r.whole_expr w (suc d) F) expr_s
   expr_laws = whole_laws l d L M f F e n u v ex nx ux vx
 
   all_laws : Laws (p.AllItem l d L) (p.AllItem w (suc d) M) (r.all_item l d f) (r.all_item w (suc d) F) (shaped (one c.Star) [] false)

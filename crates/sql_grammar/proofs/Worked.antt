@@ -10,7 +10,7 @@ use Rattle.sql_grammar.specs.Class.{Token}
 use Rattle.sql_grammar.specs.Reader.{done, stop, unexpected, only, matching, turns_within, up_to}
 use Rattle.sql_grammar.specs.Trees.{at, binary, select_of}
 use Rattle.sql_grammar.specs.Grammar.{limits}
-use Rattle.sql_grammar.specs.Reading.{script_at, script_within, under, union_of, select, select_item, named_item, all_of_item, one_item, whole, disjunction, conjunction, negation_of, test_of, suffix, sum_of, product_of, unary_of, prim, named, after, plain, bare, constant, within, among_of, members, member, from_of, table_name}
+use Rattle.sql_grammar.specs.Reading.{script_at, script_within, under, union_of, select, select_item, named_item, all_of_item, one_item, whole_expr, disjunction, conjunction, negation_of, test_of, suffix, sum_of, product_of, unary_of, prim, named, after, plain, bare, constant, within, among_of, members, member, from_of, table_name}
 
 t : Class → ℕ → Token
 t c n = record { class = c; text = n ∷ []; place = n }
@@ -24,18 +24,18 @@ plain_script : only (script_at 0) 0 (t class.Select 0 ∷ t class.Name 1 ∷ t c
       limit = None;
       offset = None;
     }) 1 []
-unfolding t script_within under union_of select select_item named_item one_item whole disjunction conjunction negation_of test_of suffix sum_of product_of unary_of prim named after plain bare from_of table_name matching turns_within up_to
+unfolding t script_within under union_of select select_item named_item one_item whole_expr disjunction conjunction negation_of test_of suffix sum_of product_of unary_of prim named after plain bare from_of table_name matching turns_within up_to
 plain_script = refl
 
 -- SELECT FROM t: FROM is refused
 no_item : only (script_at 0) 0 (t class.Select 0 ∷ t class.From 1 ∷ t class.Name 2 ∷ []) ≡ stop unexpected (t class.From 1 ∷ t class.Name 2 ∷ [])
-unfolding t script_within under union_of select select_item named_item one_item whole disjunction conjunction negation_of test_of suffix sum_of product_of unary_of prim named after plain bare from_of table_name matching turns_within up_to
+unfolding t script_within under union_of select select_item named_item one_item whole_expr disjunction conjunction negation_of test_of suffix sum_of product_of unary_of prim named after plain bare from_of table_name matching turns_within up_to
 no_item = refl
 
 -- a NOT IN (1, 2): the count around it stands as it was
-not_in : only (whole (limits 0) 1 (under (limits 0) 1)) 5 (t class.Name 0 ∷ t class.Not 1 ∷ t class.In 2 ∷ t class.Open 3 ∷ t class.Number 4 ∷ t class.Comma 5 ∷ t class.Number 6 ∷ t class.Close 7 ∷ [])
+not_in : only (whole_expr (limits 0) 1 (under (limits 0) 1)) 5 (t class.Name 0 ∷ t class.Not 1 ∷ t class.In 2 ∷ t class.Open 3 ∷ t class.Number 4 ∷ t class.Comma 5 ∷ t class.Number 6 ∷ t class.Close 7 ∷ [])
     ≡ done (at 2 (node.Not (binary 2 op.Or (binary 2 op.Eq (at 0 (node.Name None (0 ∷ []))) (at 4 (node.Number (4 ∷ [])))) (binary 2 op.Eq (at 0 (node.Name None (0 ∷ []))) (at 6 (node.Number (6 ∷ []))))))) 5 []
-unfolding t under whole disjunction conjunction negation_of test_of suffix within among_of members member sum_of product_of unary_of prim constant named after plain bare matching turns_within up_to
+unfolding t under whole_expr disjunction conjunction negation_of test_of suffix within among_of members member sum_of product_of unary_of prim constant named after plain bare matching turns_within up_to
 not_in = refl
 
 -- t . *

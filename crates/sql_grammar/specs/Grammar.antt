@@ -22,7 +22,7 @@ use Rattle.sql_grammar.specs.declared.ast.Script.{Script}
 use Rattle.sql_grammar.specs.Class.{Token, Tokens, among}
 use Rattle.sql_grammar.specs.Phrase.{Phrase, Terminal, Matching, Empty, Count, Either, Turns, UpTo, Never, Inside, Charge, Apart, Limit}
 use Rattle.sql_grammar.specs.Steps.{◌>>=◌, Maybe}
-use Rattle.sql_grammar.specs.Trees.{at, constant_of, function_of, operated, unless_not, equals, or_equals, between, is_within, small, or_zero, kind_of, or_empty, is_arrow, text_of, alias_or, side_of, joined, select_of, key_of, number_of}
+use Rattle.sql_grammar.specs.Trees.{at, constant_of, function_of, operated, unless_not, equals, or_equals, between, is_within, small, or_zero, kind_of, or_empty, is_arrow, text_of, alias_or, side_of, join_ast, select_of, key_of, number_of}
 
 -- ---- classes of tokens
 
@@ -475,7 +475,7 @@ module _ (l : Limits) (d : ℕ) (below : Levels) where
     right ← From
     on ← Terminal (one c.On)
     e ← Expr
-    Empty (joins ++ joined k right e ∷ [])
+    Empty (joins ++ join_ast k right e ∷ [])
 
   abbrev pub Where : Phrase ExprAst
   Where = do

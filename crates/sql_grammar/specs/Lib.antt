@@ -1,5 +1,5 @@
 pub mod Class
-pub mod Words
+pub mod TokenClasses
 pub mod Phrase
 pub mod Steps
 pub mod Reader

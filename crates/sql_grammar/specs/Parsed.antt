@@ -5,7 +5,7 @@ use Rattle.sql_grammar.specs.declared.ast.Script.{Script}
 use Rattle.sql_grammar.specs.declared.refused.SyntaxRefused.{SyntaxRefused}
 use Rattle.sql_grammar.specs.declared.refused.SyntaxRefused.TheVariants as refused
 use Rattle.sql_grammar.specs.Class.{Tokens}
-use Rattle.sql_grammar.specs.Words.{seen}
+use Rattle.sql_grammar.specs.TokenClasses.{seen}
 use Rattle.sql_grammar.specs.Reader.{Read, done, stop, unexpected, too_deep, too_many, only}
 use Rattle.sql_grammar.specs.Reading.{script_at}
 

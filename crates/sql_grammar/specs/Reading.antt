@@ -21,7 +21,7 @@ use Rattle.sql_grammar.specs.declared.ast.TableAst.{TableAst}
 use Rattle.sql_grammar.specs.declared.ast.Script.{Script}
 use Rattle.sql_grammar.specs.Class.{Token, Tokens, among, starts}
 use Rattle.sql_grammar.specs.Reader.{Reader, ◌>>=◌, pure, count, matching, terminal, either, maybe, turns, over, up_to, charge, apart_from, inside, ahead, too_deep, too_many}
-use Rattle.sql_grammar.specs.Trees.{at, constant_of, function_of, operated, unless_not, equals, or_equals, between, is_within, small, or_zero, kind_of, or_empty, is_arrow, text_of, alias_or, side_of, joined, select_of, key_of, number_of}
+use Rattle.sql_grammar.specs.Trees.{at, constant_of, function_of, operated, unless_not, equals, or_equals, between, is_within, small, or_zero, kind_of, or_empty, is_arrow, text_of, alias_or, side_of, join_ast, select_of, key_of, number_of}
 use Rattle.sql_grammar.specs.Grammar.{one, constants, names, additive, multiplicative, comparing, tests, simple_types, sides, forms, Calls, no_call, one_argument, counts, calls, Limits, limits, beyond}
 
 -- ---- what each begins with
@@ -381,8 +381,8 @@ module _ (l : Limits) (d : ℕ) (below : Readers) where
   unfoldable pub disjunction : Reader ExprAst
   disjunction = chain (one c.Or) conjunction
 
-  unfoldable pub whole : Reader ExprAst
-  whole = apart_from disjunction
+  unfoldable pub whole_expr : Reader ExprAst
+  whole_expr = apart_from disjunction
 
   -- ---- selects
 
@@ -400,7 +400,7 @@ module _ (l : Limits) (d : ℕ) (below : Readers) where
 
   unfoldable pub one_item : Reader ItemAst
   one_item = do
-    e ← whole
+    e ← whole_expr
     name ← maybe called_first called
     pure (item.One e (text_of name))
 
@@ -458,24 +458,24 @@ module _ (l : Limits) (d : ℕ) (below : Readers) where
     k ← join_words
     right ← from_of
     on ← terminal (one c.On)
-    e ← whole
-    pure (joins ++ joined k right e ∷ [])
+    e ← whole_expr
+    pure (joins ++ join_ast k right e ∷ [])
 
   unfoldable pub where_of : Reader ExprAst
   where_of = do
     where_ ← terminal (one c.Where)
-    whole
+    whole_expr
 
   unfoldable pub group_by : Reader (List ExprAst)
   group_by = do
     group ← terminal (one c.Group)
     by ← terminal (one c.By)
-    listed expr_first l.more whole
+    listed expr_first l.more whole_expr
 
   unfoldable pub having_of : Reader ExprAst
   having_of = do
     having ← terminal (one c.Having)
-    whole
+    whole_expr
 
   unfoldable pub select : Reader SelectAst
   select = do
@@ -511,7 +511,7 @@ module _ (l : Limits) (d : ℕ) (below : Readers) where
 
   unfoldable pub key : Reader KeyAst
   key = do
-    e ← whole
+    e ← whole_expr
     direction ← maybe (c.Asc ∷ c.Desc ∷ []) (terminal (c.Asc ∷ c.Desc ∷ []))
     nulls ← maybe (one c.Nulls) nulls_order
     pure (key_of e direction nulls)

@@ -130,8 +130,8 @@ side_of class.Left = join.Left
 side_of class.Right = join.Right
 side_of _ = join.Full
 
-unfoldable pub joined : JoinKind → FromAst → ExprAst → JoinAst
-joined k right on = roll-JoinAst (record { kind = k; right = right; on = on })
+unfoldable pub join_ast : JoinKind → FromAst → ExprAst → JoinAst
+join_ast k right on = roll-JoinAst (record { kind = k; right = right; on = on })
 
 unfoldable pub select_of : Token → Option Token → List ItemAst → FromAst → List JoinAst → Option ExprAst → Option (List ExprAst) → Option ExprAst → SelectAst
 select_of t distinct items first joins test groups having =

@@ -2,12 +2,12 @@
 
 ghost use Rattle.std.specs.Prelude.{◌≡◌};
 ghost use Rattle.std.specs.Str.{str_to_ascii_lowercase};
-ghost use Rattle.sql_grammar.specs.Words as spec;
+ghost use Rattle.sql_grammar.specs.TokenClasses as spec;
 
 use crate::class::Class;
 
 /// The class of a word: one of the grammar's words in any case, or a name.
-#[tactic(auto, unfolding(crate::specs::Words::clause_word))]
+#[tactic(auto, unfolding(crate::specs::TokenClasses::clause_word))]
 pub fn clause_word(text: &[u8]) -> Class
     ensures { result ≡ spec.clause_word (str_to_ascii_lowercase text.now) }
 {
@@ -53,7 +53,7 @@ pub fn clause_word(text: &[u8]) -> Class
     join_word(text)
 }
 
-#[tactic(auto, unfolding(crate::specs::Words::join_word))]
+#[tactic(auto, unfolding(crate::specs::TokenClasses::join_word))]
 fn join_word(text: &[u8]) -> Class
     ensures { result ≡ spec.join_word (str_to_ascii_lowercase text.now) }
 {
@@ -96,7 +96,7 @@ fn join_word(text: &[u8]) -> Class
     expression_word(text)
 }
 
-#[tactic(auto, unfolding(crate::specs::Words::expression_word))]
+#[tactic(auto, unfolding(crate::specs::TokenClasses::expression_word))]
 fn expression_word(text: &[u8]) -> Class
     ensures { result ≡ spec.expression_word (str_to_ascii_lowercase text.now) }
 {
@@ -145,7 +145,7 @@ fn expression_word(text: &[u8]) -> Class
     function_word(text)
 }
 
-#[tactic(auto, unfolding(crate::specs::Words::function_word))]
+#[tactic(auto, unfolding(crate::specs::TokenClasses::function_word))]
 fn function_word(text: &[u8]) -> Class
     ensures { result ≡ spec.function_word (str_to_ascii_lowercase text.now) }
 {
@@ -179,7 +179,7 @@ fn function_word(text: &[u8]) -> Class
     table_word(text)
 }
 
-#[tactic(auto, unfolding(crate::specs::Words::table_word))]
+#[tactic(auto, unfolding(crate::specs::TokenClasses::table_word))]
 fn table_word(text: &[u8]) -> Class
     ensures { result ≡ spec.table_word (str_to_ascii_lowercase text.now) }
 {
@@ -219,7 +219,7 @@ fn table_word(text: &[u8]) -> Class
     type_word(text)
 }
 
-#[tactic(auto, unfolding(crate::specs::Words::type_word))]
+#[tactic(auto, unfolding(crate::specs::TokenClasses::type_word))]
 fn type_word(text: &[u8]) -> Class
     ensures { result ≡ spec.type_word (str_to_ascii_lowercase text.now) }
 {
@@ -257,7 +257,7 @@ fn type_word(text: &[u8]) -> Class
 }
 
 /// The class of a symbol.
-#[tactic(auto, unfolding(crate::specs::Words::symbol))]
+#[tactic(auto, unfolding(crate::specs::TokenClasses::symbol))]
 pub fn symbol(text: &[u8]) -> Class
     ensures { result ≡ spec.symbol (text.now) }
 {

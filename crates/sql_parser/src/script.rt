@@ -8,7 +8,7 @@ ghost use Rattle.sql_grammar.specs.Reading as spec;
 ghost use Rattle.sql_grammar.specs.Parsed.{Answers, answer, parsed, read, tokens_of};
 ghost use Rattle.sql_grammar.specs.Refusals.{Gives, IsPassed, IsRefused};
 ghost use Rattle.sql_grammar.specs.Trees as tree;
-ghost use Rattle.sql_grammar.specs.Words.{seen};
+ghost use Rattle.sql_grammar.specs.TokenClasses.{seen};
 ghost use Rattle.sql_grammar.specs.declared.ast.Script as ast;
 ghost use Rattle.sql_grammar.specs.declared.class.Class.TheVariants as class;
 ghost use Rattle.sql_grammar.specs.declared.refused.SyntaxRefused.TheVariants.{
@@ -21,7 +21,7 @@ use crate::create::tables_of;
 use crate::select::union_of;
 use dfx_value::{NoMemory, Seq};
 use expr_parser::cursor::{Cursor, Seen};
-use expr_parser::expr::whole;
+use expr_parser::expr::whole_expr;
 use expr_parser::halt::{Halt, Refusal};
 use expr_parser::list::{Element, listed};
 use expr_parser::sets::EXPR_FIRST;
@@ -79,7 +79,7 @@ impl Element for SortKey {
 
     #[tactic(auto, unfolding(sql_grammar::specs::Reading::key))]
     fn read(&self, alloc: Global, cursor: &mut Cursor<'_>) -> Result<KeyAst, Halt> {
-        let expr = whole(alloc, cursor, self.depth)?;
+        let expr = whole_expr(alloc, cursor, self.depth)?;
         let direction = cursor.maybe(&[Class::Asc, Class::Desc])?;
         let nulls = nulls_order(cursor, self.depth)?;
         Ok(KeyAst {

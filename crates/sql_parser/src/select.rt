@@ -10,7 +10,7 @@ ghost use Rattle.sql_grammar.specs.declared.class.Class.TheVariants as class;
 
 use dfx_value::{JoinKind, NoMemory, Text};
 use expr_parser::cursor::{Cursor, Seen};
-use expr_parser::expr::whole;
+use expr_parser::expr::whole_expr;
 use expr_parser::halt::{Halt, Refusal};
 use expr_parser::list::{Element, listed};
 use expr_parser::sets::{CALLED_FIRST, EXPR_FIRST, ITEM_FIRST, JOIN_FIRST, NAMES, SIDES};
@@ -92,7 +92,7 @@ fn all_of_item(alloc: Global, cursor: &mut Cursor<'_>, depth: usize) -> Result<I
 fn one_item(alloc: Global, cursor: &mut Cursor<'_>, depth: usize) -> Result<ItemAst, Halt>
     ensures { Parses (at_depth spec.one_item depth) cursor.old result cursor.new }
 {
-    let expr = whole(alloc, cursor, depth)?;
+    let expr = whole_expr(alloc, cursor, depth)?;
     let name = maybe_called(cursor)?;
     Ok(ItemAst::One {
         expr,
@@ -224,9 +224,9 @@ fn join_words(cursor: &mut Cursor<'_>, depth: usize) -> Result<JoinKind, Refusal
     Ok(JoinKind::Inner)
 }
 
-#[tactic(auto, unfolding(sql_grammar::specs::Trees::joined))]
-fn joined(kind: JoinKind, right: FromAst, on: ExprAst) -> JoinAst
-    ensures { result ≡ tree.joined kind right on }
+#[tactic(auto, unfolding(sql_grammar::specs::Trees::join_ast))]
+fn join_ast(kind: JoinKind, right: FromAst, on: ExprAst) -> JoinAst
+    ensures { result ≡ tree.join_ast kind right on }
 {
     JoinAst { kind, right, on }
 }
@@ -244,8 +244,8 @@ fn join_of(
     let kind = join_words(cursor, depth)?;
     let right = from_of(alloc, cursor, depth)?;
     cursor.take(&[Class::On])?;
-    let on = whole(alloc, cursor, depth)?;
-    joins.push(joined(kind, right, on))?;
+    let on = whole_expr(alloc, cursor, depth)?;
+    joins.push(join_ast(kind, right, on))?;
     Ok(joins)
 }
 
@@ -274,7 +274,7 @@ fn where_of(alloc: Global, cursor: &mut Cursor<'_>, depth: usize) -> Result<Opti
         return Ok(None);
     }
     cursor.take(&[Class::Where])?;
-    Ok(Some(whole(alloc, cursor, depth)?))
+    Ok(Some(whole_expr(alloc, cursor, depth)?))
 }
 
 #[tactic(auto, unfolding(sql_grammar::specs::Reading::having_of))]
@@ -286,7 +286,7 @@ fn having_of(alloc: Global, cursor: &mut Cursor<'_>, depth: usize) -> Result<Opt
         return Ok(None);
     }
     cursor.take(&[Class::Having])?;
-    Ok(Some(whole(alloc, cursor, depth)?))
+    Ok(Some(whole_expr(alloc, cursor, depth)?))
 }
 
 /// An expression of GROUP BY, with room for so many levels.
@@ -298,10 +298,10 @@ struct GroupKey {
 impl Element for GroupKey {
     type Item = ExprAst;
 
-    ghost reader = { λ k. at_depth spec.whole k.depth };
+    ghost reader = { λ k. at_depth spec.whole_expr k.depth };
 
     fn read(&self, alloc: Global, cursor: &mut Cursor<'_>) -> Result<ExprAst, Halt> {
-        whole(alloc, cursor, self.depth)
+        whole_expr(alloc, cursor, self.depth)
     }
 }
 

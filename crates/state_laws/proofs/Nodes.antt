@@ -33,7 +33,7 @@ use Rattle.plan_tasks.specs.Placed.{tasks_before, consumers_before, deal_of, Has
 use Rattle.plan_tasks.proofs.Begun.{is_start}
 use Rattle.plan_tasks.proofs.Placed.{placed}
 use Rattle.plan_tasks.proofs.Senders.{are_senders}
-use Rattle.answer_laws.specs.Gives.{AllGive, Answers, AllAnswer}
+use Rattle.answer_laws.specs.Gives.{AllGive, Yields, AllYield}
 use Rattle.answer_laws.specs.Meant.{Phases}
 use Rattle.answer_laws.proofs.Splits.{passed}
 use Rattle.answer_laws.proofs.Feeds.{fed}
@@ -190,26 +190,26 @@ module _ (h : Hashing) (f : Doing) (tables : Tables) (n : ℕ) (phases : Phases)
   -- ---------------------------------------------------------- a limit over a sound plan
 
   -- what a limit gives of whole lists are stretches of their rows
-  stretches : (r : Plan) (skip : ℕ) (fetch : Option ℕ) (ws ys : List (List Item)) → AllAnswer (f.operator (Plan-F.Limit r skip fetch) 1) ws ys → Stretches (map rows ws) (map rows ys)
+  stretches : (r : Plan) (skip : ℕ) (fetch : Option ℕ) (ws ys : List (List Item)) → AllYield (f.operator (Plan-F.Limit r skip fetch) 1) ws ys → Stretches (map rows ws) (map rows ys)
   stretches r skip fetch ws ys a = record { count = count ws ys a; rows = at ws ys a }
     where
       op : ℕ → Op
       op = f.operator (Plan-F.Limit r skip fetch) 1
 
-      count : (ws ys : List (List Item)) → AllAnswer (f.operator (Plan-F.Limit r skip fetch) 1) ws ys → length (map rows ys) ≡ length (map rows ws)
+      count : (ws ys : List (List Item)) → AllYield (f.operator (Plan-F.Limit r skip fetch) 1) ws ys → length (map rows ys) ≡ length (map rows ws)
       count [] [] a = refl
       count [] (y ∷ ys) a = absurd a
       count (w ∷ ws) [] a = absurd a
       count (w ∷ ws) (y ∷ ys) a = ap suc (count ws ys a.1)
 
-      one : (w y : List Item) → Answers (f.operator (Plan-F.Limit r skip fetch) 1) (w ∷ []) y → IsStretch (rows w) (rows y)
+      one : (w y : List Item) → Yields (f.operator (Plan-F.Limit r skip fetch) 1) (w ∷ []) y → IsStretch (rows w) (rows y)
       one w y a =
           let e : y ≡ (limit_op skip fetch).whole a.told a.taken = a.gives ∙ ap (λ (o : Op). o.whole a.told a.taken) (engine.limits r skip fetch a.consumer) in
           let d : y ≡ cut skip fetch w = e ∙ ap (cut skip fetch) (a.are 0) in
           let c = cut_stretch skip fetch w in
           (c.0, c.1, ap rows d ∙ c.2)
 
-      at : (ws ys : List (List Item)) → AllAnswer (f.operator (Plan-F.Limit r skip fetch) 1) ws ys → (j : ℕ) → IsStretch (part (map rows ws) j) (part (map rows ys) j)
+      at : (ws ys : List (List Item)) → AllYield (f.operator (Plan-F.Limit r skip fetch) 1) ws ys → (j : ℕ) → IsStretch (part (map rows ws) j) (part (map rows ys) j)
       at [] [] a j = (0, 0, refl)
       at [] (y ∷ ys) a j = absurd a
       at (w ∷ ws) [] a j = absurd a

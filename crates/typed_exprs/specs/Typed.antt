@@ -98,14 +98,14 @@ abbrev pub unified : Kind → Kind → Option Kind
 unified j k = if same j k then Some j else widened j k
 
 -- with the kind that those before have
-abbrev pub joined : Option Kind → Typed → Option (Option Kind)
-joined found typed.Null = Some found
-joined None (typed.Of e k) = Some (Some k)
-joined (Some j) (typed.Of e k) = option_and_then (λ u. Some (Some u)) (unified j k)
+abbrev pub common_with : Option Kind → Typed → Option (Option Kind)
+common_with found typed.Null = Some found
+common_with None (typed.Of e k) = Some (Some k)
+common_with (Some j) (typed.Of e k) = option_and_then (λ u. Some (Some u)) (unified j k)
 
 abbrev pub common_after : Option Kind → List Typed → Option (Option Kind)
 common_after found [] = Some found
-common_after found (t ∷ ts) = option_and_then (λ next. common_after next ts) (joined found t)
+common_after found (t ∷ ts) = option_and_then (λ next. common_after next ts) (common_with found t)
 
 abbrev pub or_text : Option Kind → Kind
 or_text None = kind.Text

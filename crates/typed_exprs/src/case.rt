@@ -8,7 +8,7 @@ ghost use Rattle.typed_exprs.specs.Case as spec;
 
 use crate::refusal::{Refusal, Unbound};
 use crate::typed::{Typed, or_mismatch, settle};
-use crate::unify::{as_kind, joined};
+use crate::unify::{as_kind, common_with};
 use dfx_value::{Kind, NoMemory};
 use scalar_exprs::{Expr, when_bool};
 use sqlite_items::{Boxed, Items};
@@ -47,12 +47,12 @@ fn common_results(arms: &[Arm], other: &Typed) -> Option<Kind>
 {
     let mut found = None;
     for arm in arms {
-        match joined(found, &arm.result) {
+        match common_with(found, &arm.result) {
             Some(next) => found = next,
             None => return None,
         }
     }
-    match joined(found, other) {
+    match common_with(found, other) {
         Some(Some(kind)) => Some(kind),
         Some(None) => Some(Kind::Text),
         None => None,

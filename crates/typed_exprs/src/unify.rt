@@ -51,8 +51,8 @@ pub fn unified(left: Kind, right: Kind) -> Option<Kind>
 }
 
 /// With the kind that those before have.
-pub fn joined(found: Option<Kind>, typed: &Typed) -> Option<Option<Kind>>
-    ensures { result ≡ spec.joined found typed.now }
+pub fn common_with(found: Option<Kind>, typed: &Typed) -> Option<Option<Kind>>
+    ensures { result ≡ spec.common_with found typed.now }
 {
     match typed {
         Typed::Null => Some(found),
@@ -71,7 +71,7 @@ fn common_after(before: Option<Kind>, parts: &[Typed]) -> Option<Option<Kind>>
 {
     let mut found = before;
     for part in parts {
-        match joined(found, part) {
+        match common_with(found, part) {
             Some(next) => found = next,
             None => return None,
         }

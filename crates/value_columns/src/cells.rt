@@ -150,7 +150,7 @@ impl Cells {
     }
 
     /// The unscaled numbers of decimals.
-    fn decimals(&self, precision: u8, scale: u8) -> &Masked<i128>
+    pub fn decimals(&self, precision: u8, scale: u8) -> &Masked<i128>
         requires { kind_of self.now ≡ kind.Dec precision scale }
         ensures { map (or_null (at_scale scale)) result.now ≡ values_of self.now }
     {

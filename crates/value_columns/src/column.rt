@@ -7,6 +7,7 @@ ghost use Rattle.dfx_value.specs.declared.kind.Kind.TheVariants as kind;
 ghost use Rattle.dfx_value.specs.declared.value.Value.TheVariants as value;
 ghost use Rattle.value_columns.specs.Masked.{masked};
 ghost use Rattle.value_columns.specs.Cells.{value_of};
+ghost use Rattle.value_columns.specs.Storage.{at_scale};
 ghost use Rattle.value_columns.specs.Columns.{Kinded, all_of, with_value, with_part, chosen, or_null};
 
 use crate::cell::{Cell, look, own};
@@ -218,6 +219,21 @@ impl Column {
         ensures mask { length result.1.now ≤ length result.0.now }
     {
         self.cells.truths().part(from as usize, to as usize)
+    }
+
+    /// The unscaled numbers of a part's decimals where they stand, with a mask as that of `ints`.
+    #[tactic(auto, using(crate::proofs::ColumnLemmas::part_steps))]
+    pub fn decimals(&self, precision: u8, scale: u8, from: u32, to: u32) -> (&[i128], &[bool])
+        requires kind { self.now.kind ≡ kind.Dec precision scale }
+        requires order { from ≤ to }
+        requires within { to ≤ length self.now.values }
+        ensures value { map (or_null (at_scale scale)) (masked result.0.now result.1.now)
+            ≡ slice_range self.now.values from to }
+        ensures mask { length result.1.now ≤ length result.0.now }
+    {
+        self.cells
+            .decimals(precision, scale)
+            .part(from as usize, to as usize)
     }
 
     /// A column of whole numbers, with a mask as that of `ints`.

@@ -11,4 +11,5 @@ mod texts;
 
 pub use cell::{Cell, compare, look, own};
 pub use column::Column;
+pub use masked::Masked;
 pub use print::push_printed;

@@ -83,6 +83,16 @@ impl<T> Masked<T> {
         }
     }
 
+    /// No item, with room for so many.
+    pub fn with_capacity(alloc: Global, count: usize) -> Result<Masked<T>, NoMemory>
+        ensures { IfOk result (λ m. m ≡ []) }
+    {
+        Ok(Masked {
+            items: Vec::with_capacity(alloc, count)?,
+            nulls: Vec::new(alloc),
+        })
+    }
+
     /// Items with a mask.
     pub fn of_parts(items: Vec<T>, nulls: Vec<bool>) -> Masked<T>
         requires { length nulls.items ≤ length items.items }
@@ -110,6 +120,7 @@ impl<T> Masked<T> {
     }
 
     /// Puts an item at the end.
+    #[inline]
     pub fn push(&mut self, item: T) -> Result<(), NoMemory>
     where
         T: Drop,
@@ -131,6 +142,28 @@ impl<T> Masked<T> {
         self.items.push(filler)?;
         self.nulls.push_reserved(true);
         Ok(())
+    }
+
+    /// Puts an item or NULL at the end; the filler stands under a NULL.
+    #[inline]
+    pub fn push_item(&mut self, item: Option<T>, filler: T) -> Result<(), NoMemory>
+    where
+        T: Drop,
+        ensures ok { OnOk result (self.new ≡ self.old ++ item ∷ []) }
+        ensures err { OnErr result (self.new ≡ self.old) }
+    {
+        match item {
+            Some(item) => self.push(item),
+            None => self.push_null(filler),
+        }
+    }
+
+    /// The items, with anything in the place of a NULL, and their mask.
+    pub fn into_parts(self) -> (Vec<T>, Vec<bool>)
+        ensures value { masked result.0.items result.1.items ≡ self }
+        ensures mask { length result.1.items ≤ length result.0.items }
+    {
+        (self.items, self.nulls)
     }
 }
 

@@ -1,10 +1,11 @@
 //! Each row as `eval` gives it: lengths about those at which words and blocks end, NULLs, faults.
 
-ghost use Rattle.std.specs.Prelude.{◌≡◌, ◌<◌, ◌^◌};
+ghost use Rattle.std.specs.Prelude.{◌≡◌, ◌∷◌, []};
+ghost use Rattle.dfx_value.specs.declared.kind.Kind.TheVariants as kind;
 
-use crate::rows::{KINDS, batch, binary, case, coalesce, number, row_at};
-use column_batch::{compare, look};
-use dfx_value::{EvalFault, Value};
+use crate::rows::{KINDS, batch, binary, case, coalesce, inner_part, number, row_at};
+use column_batch::{Batch, compare, look};
+use dfx_value::{EvalFault, Kind, Value};
 use scalar_exprs::{EvalRefused, Expr, Op, eval, is_true};
 use scalar_vector::{Part, Tests, eval_batch, eval_tests};
 use sqlite_items::Boxed;
@@ -25,13 +26,14 @@ fn shows(part: &Part, tests: &Tests, at: usize, value: &Value) -> bool {
     compare(&cell, &look(value)).is_eq() && tests.keep[at] == is_true(value)
 }
 
-/// Whether an expression over columns is what it is row by row.
-fn agrees(alloc: Global, expr: &Expr, rows: u32, zero: u32) -> Result<bool, Fail> {
-    let batch = batch(alloc, rows, zero)?;
-    let part = eval_batch(alloc, expr, &KINDS, &batch)?;
-    let tests = eval_tests(alloc, expr, &KINDS, &batch)?;
-    for at in 0..rows {
-        let row = row_at(alloc, at, zero)?;
+/// Whether an expression over columns is what it is row by row, where the first row is this one.
+fn agrees_on(alloc: Global, expr: &Expr, batch: &Batch, first: u32, zero: u32) -> Result<bool, Fail>
+    requires { batch.now.kinds ≡ kind.Int ∷ kind.Int ∷ kind.Text ∷ [] }
+{
+    let part = eval_batch(alloc, expr, &KINDS, batch)?;
+    let tests = eval_tests(alloc, expr, &KINDS, batch)?;
+    for at in 0..batch.rows() {
+        let row = row_at(alloc, first.saturating_add(at), zero)?;
         match eval(alloc, expr, &row) {
             Ok(value) => {
                 if !shows(&part, &tests, at as usize, &value) {
@@ -44,7 +46,18 @@ fn agrees(alloc: Global, expr: &Expr, rows: u32, zero: u32) -> Result<bool, Fail
             Err(EvalRefused::NoMemory) => return Ok(false),
         }
     }
-    Ok(ends(&part, &tests, rows as usize, None))
+    Ok(ends(&part, &tests, batch.rows() as usize, None))
+}
+
+/// The same on so many rows of a batch, and on so many of a part of a part.
+fn agrees(alloc: Global, expr: &Expr, rows: u32, zero: u32) -> Result<bool, Fail> {
+    let all = batch(alloc, rows, zero)?;
+    let inner = inner_part(alloc, rows, zero)?;
+    Ok(
+        inner.rows() == rows
+            && agrees_on(alloc, expr, &all, 0, zero)?
+            && agrees_on(alloc, expr, &inner, 2, zero)?,
+    )
 }
 
 fn zero_test(alloc: Global) -> Result<Expr, Fail> {
@@ -100,6 +113,71 @@ fn two_tests(alloc: Global) -> Result<Expr, Fail> {
     binary(alloc, Op::And, left, right)
 }
 
+/// A sum that leaves 64 bits at the first row whose second cell is above 40.
+fn large_sum(alloc: Global) -> Result<Expr, Fail> {
+    binary(alloc, Op::Add, number(i64::MAX - 40), Expr::Column(1))
+}
+
+/// The large sum where it is a number, and where it isn't.
+fn large_sum_in_case(alloc: Global, below: i64) -> Result<Expr, Fail> {
+    let test = with_number(alloc, Op::Lt, below)?;
+    let chosen = large_sum(alloc)?;
+    case(alloc, test, chosen, Expr::Column(0))
+}
+
+fn twice_below(alloc: Global) -> Result<Expr, Fail> {
+    let twice = with_number(alloc, Op::Mul, 2)?;
+    binary(alloc, Op::Lt, Expr::Column(0), twice)
+}
+
+/// Truths of which some are NULL, in a CASE.
+fn truths_in_case(alloc: Global) -> Result<Expr, Fail> {
+    let test = with_number(alloc, Op::Lt, 40)?;
+    let chosen = with_number(alloc, Op::Ge, 9)?;
+    let other = zero_test(alloc)?;
+    case(alloc, test, chosen, other)
+}
+
+fn either_test(alloc: Global) -> Result<Expr, Fail> {
+    let left = with_number(alloc, Op::Gt, 8)?;
+    let right = with_number(alloc, Op::Lt, 5)?;
+    binary(alloc, Op::Or, left, right)
+}
+
+fn texts_in_case(alloc: Global) -> Result<Expr, Fail> {
+    let test = with_number(alloc, Op::Lt, 40)?;
+    case(
+        alloc,
+        test,
+        Expr::Column(2),
+        Expr::Const(Value::Null, Kind::Text),
+    )
+}
+
+/// The n-th of the expressions of which some operands are NULL.
+fn with_nulls(alloc: Global, which: u32) -> Result<Expr, Fail> {
+    match which {
+        0 => with_itself(alloc, Op::Sub, 1),
+        1 => with_itself(alloc, Op::Ne, 1),
+        2 => binary(alloc, Op::Le, Expr::Column(0), Expr::Column(1)),
+        3 => twice_below(alloc),
+        4 => large_sum(alloc),
+        5 => large_sum_in_case(alloc, 41),
+        6 => large_sum_in_case(alloc, 60),
+        7 => truths_in_case(alloc),
+        8 => either_test(alloc),
+        9 => texts_in_case(alloc),
+        10 => coalesce(alloc, Expr::Column(1), number(-1)),
+        11 => binary(
+            alloc,
+            Op::Mul,
+            Expr::Const(Value::Null, Kind::Int),
+            Expr::Column(0),
+        ),
+        _ => coalesce(alloc, Expr::Const(Value::Null, Kind::Text), Expr::Column(2)),
+    }
+}
+
 /// The n-th of the expressions that are tried.
 fn tried(alloc: Global, which: u32) -> Result<Expr, Fail> {
     match which {
@@ -119,7 +197,8 @@ fn tried(alloc: Global, which: u32) -> Result<Expr, Fail> {
         13 => two_tests(alloc),
         14 => negated(alloc),
         15 => Ok(Expr::Column(9)),
-        _ => Ok(number(3)),
+        16 => Ok(number(3)),
+        _ => with_nulls(alloc, which - 17),
     }
 }
 
@@ -127,7 +206,7 @@ fn tried(alloc: Global, which: u32) -> Result<Expr, Fail> {
 fn each_row_as_row_by_row(rt: HostRuntime) -> Result<(), Fail> {
     let alloc = rt.alloc();
     for rows in [0, 1, 7, 8, 9, 63, 64, 65, 200] {
-        for which in 0..17 {
+        for which in 0..30 {
             let expr = tried(alloc, which)?;
             assert!(rt; agrees(alloc, &expr, rows, rows)?, "{which} on {rows} rows");
             assert!(rt;

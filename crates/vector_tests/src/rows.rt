@@ -65,6 +65,21 @@ pub fn batch(alloc: Global, rows: u32, zero: u32) -> Result<Batch, Fail>
     Ok(builder.finish(alloc)?)
 }
 
+/// So many of these rows from the third on, as a part of a part of a batch.
+pub fn inner_part(alloc: Global, rows: u32, zero: u32) -> Result<Batch, Fail>
+    ensures { IfOk result (λ batch. batch.kinds ≡ kind.Int ∷ kind.Int ∷ kind.Text ∷ []) }
+{
+    let all = batch(alloc, rows.saturating_add(4), zero)?;
+    if all.rows() < 2 {
+        return Ok(all);
+    }
+    let most = all.slice(alloc, 1, all.rows() - 1)?;
+    if most.rows() < 2 {
+        return Ok(most);
+    }
+    Ok(most.slice(alloc, 1, most.rows() - 1)?)
+}
+
 pub fn number(number: i64) -> Expr {
     Expr::Const(Value::Int(number), Kind::Int)
 }

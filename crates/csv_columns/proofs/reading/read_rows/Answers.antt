@@ -9,6 +9,8 @@ use Rattle.csv_source.specs.ScanView.{GivesRows}
 use Rattle.csv_columns.specs.Filled.{Even}
 use Rattle.csv_columns.specs.Left.{items_left}
 use Rattle.csv_columns.proofs.ItemSteps.{given_gives, given_falls, rows_none, even_none, gives_full, gives_short, refused_after}
+use Rattle.csv_columns.proofs.ExtendSteps.{all_long, all_kinds, rows_same}
+use Rattle.csv_columns.proofs.StopSteps.{stops_in, stops_front}
 use Rattle.csv_columns.proofs.reading.read_rows.Goals as goal
 
 pub loop-at-init : goal.loop-at-init
@@ -22,16 +24,6 @@ loop-at-init g c = record {
   later = omega arith;
   whole = rows_none (items_left (g.S.Source.told c.args.source.now) c.args.kinds.now c.args.reading.now.number c.args.reading.now.reader);
 }
-
-pub returns-in-Err-clause-refused : goal.returns-in-Err-clause-refused
-returns-in-Err-clause-refused g c items e is same bad =
-    let here : c.in-Err.e ≡ e = (cc) in
-    refused_after c.args.rows items (rows_from c.loop-at.columns.items 0 c.loop-at.at)
-    (items_left (g.S.Source.told c.args.source.now) c.args.kinds.now c.loop-at.reading.number c.loop-at.reading.reader)
-    (items_left (g.S.Source.told c.args.source.now) c.args.kinds.now c.args.reading.now.number c.args.reading.now.reader)
-    e
-    (λ xs known. c.in-Err.ensures.refused xs e (rw (c.loop-at.invariant.told, c.loop-at.invariant.kinds) known) (ap Err here) bad)
-    c.loop-at.invariant.whole is (omega (arith, length-rows_from c.loop-at.columns.items 0 c.loop-at.at))
 
 pub returns-in-Ok-false-clause-gives : goal.returns-in-Ok-false-clause-gives
 returns-in-Ok-false-clause-gives g c items is =
@@ -75,3 +67,24 @@ returns-clause-falls g c =
     (most_left (g.S.Source.size c.args.source.now) c.loop-at.reading.reader) (most_left (g.S.Source.size c.args.source.now) c.args.reading.now.reader)
     c.batch_given-2.ensures.rows c.batch_given-2.ensures.ended
     (omega (arith, length-rows_from c.loop-at.columns.items 0 c.args.rows, c.loop-at.auto.at-end, c.loop-at.invariant.falls))
+
+pub stop_at-requires : goal.stop_at-requires
+stop_at-requires g c = record { long = all_long c.loop-at.at c.loop-at.columns.items c.push_next.new.columns.items c.loop-at.invariant.even c.push_next.ensures.kept }
+
+pub returns-in-Err-clause-stopped : goal.returns-in-Err-clause-stopped
+returns-in-Err-clause-stopped g c items is =
+    stops_in c.stop_at.result _ c.in-Err.refused c.args.rows items (rows_from c.loop-at.columns.items 0 c.loop-at.at) c.stop_at.ensures
+    (rows_same c.loop-at.at c.loop-at.columns.items c.push_next.new.columns.items c.loop-at.invariant.even c.push_next.ensures.kept)
+    (λ bad.
+    refused_after c.args.rows items (rows_from c.loop-at.columns.items 0 c.loop-at.at)
+    (items_left (g.S.Source.told c.args.source.now) c.args.kinds.now c.loop-at.reading.number c.loop-at.reading.reader)
+    (items_left (g.S.Source.told c.args.source.now) c.args.kinds.now c.args.reading.now.number c.args.reading.now.reader)
+    c.in-Err.refused
+    (λ xs known. c.in-Err.ensures.refused xs c.in-Err.refused (rw (c.loop-at.invariant.told, c.loop-at.invariant.kinds) known) refl bad)
+    c.loop-at.invariant.whole is (omega (arith, length-rows_from c.loop-at.columns.items 0 c.loop-at.at)))
+
+pub returns-in-Err-clause-front : goal.returns-in-Err-clause-front
+returns-in-Err-clause-front g c =
+    stops_front c.stop_at.result _ c.in-Err.refused c.args.kinds.now (most_left (g.S.Source.size c.args.source.now) c.args.reading.now.reader) c.stop_at.ensures
+    (all_kinds c.loop-at.columns.items c.push_next.new.columns.items c.push_next.ensures.kept ∙ c.loop-at.invariant.kinds)
+    (omega (arith, length-rows_from c.push_next.new.columns.items 0 c.loop-at.at, c.loop-at.invariant.falls))

@@ -1,5 +1,5 @@
 use Rattle.std.proofs.Common.{◌≡◌, ap, sym, ◌∙◌, Err, inl}
-use Rattle.dfx_top.specs.Asked.{asked, by_asked}
+use Rattle.dfx_top.specs.Requests.{asked, by_asked}
 use Rattle.dfx_top.proofs.CommandEnds.{exact_of, unwritten}
 use Rattle.dfx_top.proofs.command.command_here.Goals as goal
 

@@ -1,5 +1,5 @@
 use Rattle.std.proofs.Common.{◌≡◌, ◌≤◌, drop}
-use Rattle.dfx_top.specs.Words as spec
+use Rattle.dfx_top.specs.CommandWords as spec
 use Rattle.dfx_top.proofs.words.number_of.Given as goal
 
 -- what is left answers as the whole

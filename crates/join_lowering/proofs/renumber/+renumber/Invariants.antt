@@ -1,6 +1,6 @@
 use Rattle.std.proofs.Common.{◌≡◌, ◌++◌, drop, map}
 use Rattle.join_lowering.specs.Lowering.{renumbered}
-use Rattle.join_lowering.specs.Words.{new_number, renumbered_arms}
+use Rattle.join_lowering.specs.SidesUsed.{new_number, renumbered_arms}
 use Rattle.join_lowering.proofs.renumber.+renumber.Given as goal
 
 abbrev pub invariant-renumber_all-loop-expr : goal.invariant-renumber_all-loop-expr

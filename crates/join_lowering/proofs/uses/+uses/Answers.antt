@@ -1,7 +1,7 @@
 use Rattle.std.proofs.Common.{◌+◌, drop, ap, ◌∙◌, arith}
 use Rattle.join_lowering.specs.declared.uses.Uses.{Uses}
 use Rattle.join_lowering.specs.Keys.{columns}
-use Rattle.join_lowering.specs.Words.{with_columns, arm_columns, all_columns}
+use Rattle.join_lowering.specs.SidesUsed.{with_columns, arm_columns, all_columns}
 use Rattle.join_lowering.proofs.Sides.{next_arm, no_arm, next_expr, no_expr}
 use Rattle.join_lowering.proofs.uses.+uses.Goals as goal
 

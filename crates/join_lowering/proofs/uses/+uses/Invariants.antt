@@ -1,5 +1,5 @@
 use Rattle.std.proofs.Common.{◌≡◌, drop}
-use Rattle.join_lowering.specs.Words.{with_columns, arm_columns, all_columns}
+use Rattle.join_lowering.specs.SidesUsed.{with_columns, arm_columns, all_columns}
 use Rattle.join_lowering.proofs.uses.+uses.Given as goal
 
 abbrev pub invariant-uses_in_arms-loop-arm : goal.invariant-uses_in_arms-loop-arm

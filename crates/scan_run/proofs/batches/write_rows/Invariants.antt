@@ -1,6 +1,5 @@
 use Rattle.std.proofs.Common.{◌≡◌, ◌≤◌, ◌+◌, ℕ, List, Some, true, false, cond}
 use Rattle.csv_source.specs.CsvItems as csv
-use Rattle.csv_source.specs.ScanView.{left_count}
 use Rattle.scan_run.specs.Written.{WroteAll}
 use Rattle.scan_run.specs.Words.{Writing, items_of_file}
 use Rattle.scan_run.proofs.batches.write_rows.Given as goal
@@ -16,4 +15,4 @@ invariant-loop-more g l = record {
 }
 
 abbrev pub decreases-loop-more : goal.decreases-loop-more
-decreases-loop-more g l = cond l.more (left_count l.scan.left + 1) 0
+decreases-loop-more g l = cond l.more (l.scan.most + 1) 0

@@ -1,5 +1,5 @@
 use Rattle.std.proofs.Common.{◌≡◌, map, take}
-use Rattle.sql_grammar.specs.Words.{seen}
+use Rattle.sql_grammar.specs.TokenClasses.{seen}
 use Rattle.sql_parser.proofs.script.seen_of.Given as goal
 
 abbrev pub invariant-loop-token : goal.invariant-loop-token

@@ -1,9 +1,11 @@
-use Rattle.std.proofs.Common.{◌≡◌, ◌++◌, ℕ, List, map, drop}
-use Rattle.csv.specs.Records.{fields_of}
+use Rattle.std.proofs.Common.{◌≡◌, ◌++◌, length, map, take}
+use Rattle.csv.specs.Writing.{default_writer, row_body}
 use Rattle.dfx_value.specs.Print.{printed}
-use Rattle.result_text.specs.RowLines.{Holds}
 use Rattle.result_text.proofs.row_lines.RowLines.push_row.Given as goal
 
--- the fields so far, and those of the other cells
-abbrev pub invariant-loop-cell : goal.invariant-loop-cell
-invariant-loop-cell l = (text : List ℕ) → Holds l.fn.self text → Holds l.self text × (fields_of l.self.record ++ map printed (drop l.cell-index l.row) ≡ map printed l.row)
+-- the fields so far stand behind what was there
+abbrev pub invariant-loop-place : goal.invariant-loop-place
+invariant-loop-place l = record {
+  start : l.start ≡ length l.fn.self;
+  text : l.self-inside.text.items ≡ l.fn.self ++ row_body default_writer (take l.place (map printed l.row));
+}

@@ -1,0 +1,4 @@
+pub mod Streams
+pub mod Filters
+pub mod Limits
+pub mod Projects

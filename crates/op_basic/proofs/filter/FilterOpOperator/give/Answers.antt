@@ -1,0 +1,11 @@
+use Rattle.logical_plan.specs.Items.{filtered}
+use Rattle.op_basic.proofs.Streams.{each_cut, each_gave}
+use Rattle.op_basic.proofs.filter.FilterOpOperator.give.Goals as goal
+
+pub returns-clause-cut : goal.returns-clause-cut
+returns-clause-cut c op t n h =
+    each_cut (filtered c.args.self.now.test) c.args.self.now.waiting.items c.args.self.now.ended op t n c.args.most c.give.result h c.give.ensures.cut
+
+pub returns-clause-gave : goal.returns-clause-gave
+returns-clause-gave c op t n h =
+    each_gave (filtered c.args.self.now.test) c.args.self.now.waiting.items c.give.new.self.items c.args.self.now.ended op t n c.args.most c.give.result h c.give.ensures.cut c.give.ensures.rest

@@ -1,0 +1,4 @@
+pub mod Polls
+pub mod Waiting
+pub mod Batched
+pub mod Keeping

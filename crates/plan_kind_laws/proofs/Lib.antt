@@ -1,0 +1,4 @@
+pub mod Erased
+pub mod Phases
+pub mod Bodies
+pub mod Inputs

@@ -1,0 +1,5 @@
+//! Tests of the kinds of plans that are made by hand.
+#![tactic(auto)]
+
+#[cfg(test)]
+mod plans;

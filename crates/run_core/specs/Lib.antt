@@ -1,0 +1,9 @@
+pub mod Given
+pub mod Fits
+pub mod Holds
+pub mod Room
+pub mod Over
+pub mod Starts
+pub mod RunView
+pub mod StaysFit
+pub mod Serves

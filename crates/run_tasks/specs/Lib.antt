@@ -1,0 +1,3 @@
+pub mod Stands
+pub mod Moved
+pub mod Asked

@@ -1,0 +1,10 @@
+use Rattle.std.proofs.Common.{◌≡◌, drop}
+use Rattle.scalar_exprs.specs.Functions.{operated}
+use Rattle.scalar_vector.specs.Fronts.{front}
+use Rattle.scalar_vector.specs.Items.{ints, items_of}
+use Rattle.scalar_vector.specs.Woven.{after, zipped}
+use Rattle.scalar_vector.proofs.numbers.compute_items.Given as goal
+
+abbrev pub invariant-loop-at : goal.invariant-loop-at
+invariant-loop-at l = after (ints l.numbers) (front (drop l.at (zipped (operated l.op) (ints (items_of l.left)) (ints (items_of l.right)))))
+    ≡ front (zipped (operated l.op) (ints (items_of l.left)) (ints (items_of l.right)))

@@ -1,0 +1,11 @@
+use Rattle.std.proofs.Common.{◌≡◌, map, drop}
+use Rattle.scalar_vector.specs.declared.unary.Unary.TheVariants as unary
+use Rattle.scalar_vector.specs.Fronts.{front}
+use Rattle.scalar_vector.specs.Items.{truths}
+use Rattle.scalar_vector.specs.Steps.{applied}
+use Rattle.scalar_vector.specs.Vectors.{values_of}
+use Rattle.scalar_vector.specs.Woven.{after}
+use Rattle.scalar_vector.proofs.unary.nulls_of.Given as goal
+
+abbrev pub invariant-loop-at : goal.invariant-loop-at
+invariant-loop-at l = after (truths l.bits) (front (drop l.at (map (applied unary.IsNull) (values_of l.vector)))) ≡ front (map (applied unary.IsNull) (values_of l.vector))

@@ -1,0 +1,5 @@
+//! Tests of the tasks of plans that are made by hand.
+#![tactic(auto)]
+
+#[cfg(test)]
+mod plans;

@@ -1,0 +1,9 @@
+pub mod Slots
+pub mod Gives
+pub mod Scans
+pub mod Stands
+pub mod Names
+pub mod Clauses
+pub mod Lines
+pub mod Turns
+pub mod TaskClauses
