@@ -3,3 +3,4 @@ pub mod FieldSteps
 pub mod ItemSteps
 pub mod OpenSteps
 pub mod LeftSteps
+pub mod TableLaws

@@ -1,4 +1,5 @@
 pub mod CsvItems
+pub mod TableItems
 pub mod Records
 pub mod Rows
 pub mod Scans

@@ -11,7 +11,7 @@ use Rattle.failure_text.specs.declared.failure.Failure.{Failure}
 use Rattle.failure_text.specs.declared.failure.Failure.TheVariants as failure
 use Rattle.dfx_prepare.specs.declared.prepared.Prepared.{Prepared}
 use Rattle.scan_run.specs.Chains.{Scanned, scanned, is_chain, is_there}
-use Rattle.scan_run.specs.Sources.{missing}
+use Rattle.csv_source.specs.TableItems.{missing}
 use Rattle.scan_run.specs.Outcomes.{Asked as Run, Ran, Began, HasFiles, IsMet as IsMetBy, IsOkOrMemory}
 use Rattle.scan_run.specs.declared.refused.RunRefused.{RunRefused}
 use Rattle.scan_run.specs.declared.refused.RunRefused.TheVariants as refused

@@ -12,7 +12,7 @@ use Rattle.failure_text.specs.declared.failure.Failure.{Failure}
 use Rattle.failure_text.specs.declared.failure.Failure.TheVariants as failure
 use Rattle.dfx_prepare.specs.declared.prepared.Prepared.{Prepared}
 use Rattle.scan_run.specs.Chains.{Scanned, scanned}
-use Rattle.scan_run.specs.Sources.{fault_of}
+use Rattle.csv_source.specs.TableItems.{fault_of}
 use Rattle.scan_run.specs.Outcomes.{Asked as Run, Answered, Stopped, Began}
 use Rattle.dfx_top.specs.Requests.{Ready, asked, not_run, scan_paths, path_at}
 use Rattle.dfx_top.specs.Causes.{cause_of}

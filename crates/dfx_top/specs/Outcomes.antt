@@ -10,7 +10,7 @@ use Rattle.dfx_prepare.specs.Preparing.{Path}
 use Rattle.failure_text.specs.declared.failure.Failure.{Failure}
 use Rattle.failure_text.specs.declared.failure.Failure.TheVariants as failure
 use Rattle.scan_run.specs.Chains.{is_chain}
-use Rattle.scan_run.specs.Sources.{fault_of}
+use Rattle.csv_source.specs.TableItems.{fault_of}
 use Rattle.scan_run.specs.declared.refused.RunRefused.{RunRefused}
 use Rattle.scan_run.specs.declared.refused.RunRefused.TheVariants as refused
 use Rattle.dfx_top.specs.Requests.{path_at}

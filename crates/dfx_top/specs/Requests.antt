@@ -9,7 +9,7 @@ use Rattle.failure_text.specs.declared.failure.Failure.{Failure}
 use Rattle.failure_text.specs.declared.failure.Failure.TheVariants as failure
 use Rattle.dfx_prepare.specs.declared.prepared.Prepared.{Prepared}
 use Rattle.scan_run.specs.Chains.{Scanned, scanned, is_chain}
-use Rattle.scan_run.specs.Sources.{missing}
+use Rattle.csv_source.specs.TableItems.{missing}
 use Rattle.dfx_top.specs.CommandWords.{request_of, default_partitions, Command}
 use Rattle.dfx_top.specs.declared.words.Request.{Request}
 use Rattle.dfx_top.specs.declared.words.Request.TheVariants as request

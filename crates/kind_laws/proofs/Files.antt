@@ -14,7 +14,7 @@ use Rattle.dfx_value.specs.Kinds.{are_of}
 use Rattle.dfx_value.specs.KindedRows.{all_are}
 use Rattle.dfx_value.specs.declared.kind.Kind.{Kind}
 use Rattle.logical_plan.specs.Items.{Item, rows, faults, concat}
-use Rattle.scan_run.specs.Sources.{fault_of, item_of, file_items, files_from, CsvTable, tables_from}
+use Rattle.csv_source.specs.TableItems.{fault_of, item_of, file_items, files_from, CsvTable, tables_from}
 use Rattle.kind_laws.specs.Tables.{TablesHave, file_at, names_file, FaultsAreNamed, table_kinds, file_counts}
 use Rattle.kind_laws.proofs.Rows.{items_append}
 use Rattle.kind_laws.proofs.Fields.{RecordFits, record_fits}

@@ -8,7 +8,7 @@ use Rattle.dfx_value.specs.declared.fault.ItemFault.TheVariants.{Evaluation, Csv
 use Rattle.dfx_value.specs.declared.kind.Kind.{Kind}
 use Rattle.logical_plan.specs.Items.{Item, rows, faults, concat}
 use Rattle.logical_plan.specs.Body.{Tables}
-use Rattle.scan_run.specs.Sources.{CsvTable}
+use Rattle.csv_source.specs.TableItems.{CsvTable}
 
 -- for each table its kinds: the rows of all its files are of them
 abbrev pub TablesHave : List (List Kind) → Tables → Type 0

@@ -16,7 +16,7 @@ use Rattle.logical_plan.specs.declared.plan.Logical.TheFolds.{para-roll-Logical,
 use Rattle.logical_plan.specs.Items.{Cells, rows, concat}
 use Rattle.logical_plan.specs.Body.{Tables, meant_part, body, kinds}
 use Rattle.logical_plan.proofs.BodySteps.{kinds_at}
-use Rattle.scan_run.specs.Sources.{CsvTable, tables_from}
+use Rattle.csv_source.specs.TableItems.{CsvTable, tables_from}
 use Rattle.kind_laws.specs.Kinded.{same_kinds, has_kind, is_test, is_rest, keys_compare, has_columns, calls_fit, is_table, all_as, are_united, kinded_node, is_well_kinded}
 use Rattle.kind_laws.specs.Tables.{TablesHave, table_kinds, file_counts}
 use Rattle.kind_laws.proofs.Bodies.{scan_gives, kinded_rolled, giving}

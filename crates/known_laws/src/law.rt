@@ -5,7 +5,7 @@ ghost use Rattle.dfx_outside.specs.Contents.{Contents};
 ghost use Rattle.dfx_value.specs.declared.kind.Kind.{Kind as AKind};
 ghost use Rattle.logical_plan.specs.declared.plan.Logical.{Logical as ABody};
 ghost use Rattle.logical_plan.specs.Body.{Tables};
-ghost use Rattle.scan_run.specs.Sources.{CsvTable, tables_from};
+ghost use Rattle.csv_source.specs.TableItems.{CsvTable, tables_from};
 ghost use Rattle.kind_laws.specs.Kinded.{is_well_kinded};
 ghost use Rattle.kind_laws.specs.Tables.{TablesHave, table_kinds, file_counts};
 ghost use Rattle.answer_laws.specs.Distincts.{has_distincts};

@@ -9,7 +9,7 @@ use Rattle.physical_plan.specs.declared.plan.Plan.TheOpen.{Plan-F}
 use Rattle.physical_plan.specs.declared.plan.Plan.{Plan}
 use Rattle.plan_shape.specs.Layout.{shape}
 use Rattle.logical_plan.specs.Body.{Tables}
-use Rattle.scan_run.specs.Sources.{CsvTable, tables_from}
+use Rattle.csv_source.specs.TableItems.{CsvTable, tables_from}
 use Rattle.dfx_prepare.specs.Preparing.{Path, schema_of, script_of, prepared}
 use Rattle.dfx_prepare.specs.declared.prepared.Prepared.{Prepared}
 use Rattle.tree_laws.specs.Runs.{State}

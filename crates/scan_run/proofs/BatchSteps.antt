@@ -16,7 +16,7 @@ use Rattle.logical_plan.specs.declared.plan.Logical.{Logical}
 use Rattle.scalar_exprs.specs.declared.refused.EvalRefused.{EvalRefused}
 use Rattle.scalar_exprs.specs.declared.refused.EvalRefused.TheVariants as eval
 use Rattle.scan_run.specs.Chains.{Scanned, scanned, is_chain, is_there, over}
-use Rattle.scan_run.specs.Sources.{item_of, fault_of}
+use Rattle.csv_source.specs.TableItems.{item_of, fault_of}
 use Rattle.scan_run.specs.Written.{batch_rows, lines, WroteAll, WroteBefore, WrotePart}
 use Rattle.scan_run.specs.Words.{Adds, Taken, TakenAll, Meets, Writing, of_scan, of_eval, fault_named, items_of_file}
 use Rattle.scan_run.specs.declared.refused.RunRefused.{RunRefused}

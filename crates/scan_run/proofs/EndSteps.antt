@@ -18,7 +18,7 @@ use Rattle.logical_plan.specs.declared.plan.Logical.{Logical}
 use Rattle.logical_plan.specs.declared.query.Query.{Query}
 use Rattle.result_text.specs.AnswerText.{header_line}
 use Rattle.scan_run.specs.Chains.{scanned, over}
-use Rattle.scan_run.specs.Sources.{files_from, missing, fault_of}
+use Rattle.csv_source.specs.TableItems.{files_from, missing, fault_of}
 use Rattle.scan_run.specs.Written.{lines, WroteAll, WrotePart, BeganOver}
 use Rattle.scan_run.specs.Outcomes.{Asked, files_of, with_header, HasFiles, Answered, Stopped, Began, Ran, IsMet, IsOkOrMemory}
 use Rattle.scan_run.specs.Words.{AreOpened, StopsIn, IsOfRun, IsOfOpening, fault_named, items_of_all}

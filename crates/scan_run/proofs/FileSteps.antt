@@ -7,7 +7,7 @@ use Rattle.dfx_value.specs.declared.fault.ItemFault.{ItemFault}
 use Rattle.logical_plan.specs.Items.{Item, concat, faults}
 use Rattle.logical_plan.specs.declared.plan.Logical.{Logical}
 use Rattle.scan_run.specs.Chains.{Scanned, over}
-use Rattle.scan_run.specs.Sources.{file_items, files_from}
+use Rattle.csv_source.specs.TableItems.{file_items, files_from}
 use Rattle.scan_run.specs.Written.{lines, WroteAll, WroteBefore, WrotePart}
 use Rattle.scan_run.specs.Words.{Tell, WritingFiles, StopsIn, IsOfRows, items_of_all}
 use Rattle.scan_run.specs.declared.refused.RunRefused.{RunRefused}

@@ -5,5 +5,4 @@ pub mod BatchSteps
 pub mod OpenSteps
 pub mod FileSteps
 pub mod EndSteps
-pub mod TableLaws
 pub mod FrontSteps

@@ -2,7 +2,7 @@
 use Rattle.std.proofs.Common.{◌≡◌, refl, ℕ, ◌+◌, ◌<◌, ◌≤◌, List, [], ◌∷◌, ◌++◌, length, map, take, drop, get_or, Option, Some, None, ap, sym, ◌∙◌}
 use Rattle.std.proofs.lemmas.List.{map-append, take_more, take_all, drop_all, at_drop_more}
 use Rattle.dfx_outside.specs.Contents.{Contents, content}
-use Rattle.scan_run.specs.Sources.{missing, missing_from, missing_by}
+use Rattle.csv_source.specs.TableItems.{missing, missing_from, missing_by}
 use Rattle.scan_run.specs.Words.{Opens, Opening, AreOpened}
 
 pub opening_none : (all : Contents) (paths : List (List ℕ)) → Opening all paths 0 []

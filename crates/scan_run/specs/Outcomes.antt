@@ -9,7 +9,7 @@ use Rattle.logical_plan.specs.Allowed.{Allowed}
 use Rattle.logical_plan.specs.declared.query.Query.{Query}
 use Rattle.result_text.specs.AnswerText.{header_line, answer_text}
 use Rattle.scan_run.specs.Chains.{Scanned}
-use Rattle.scan_run.specs.Sources.{table_files, missing, fault_of}
+use Rattle.csv_source.specs.TableItems.{table_files, missing, fault_of}
 use Rattle.scan_run.specs.Written.{WroteBefore, BeganOver}
 use Rattle.scan_run.specs.declared.refused.RunRefused.{RunRefused}
 use Rattle.scan_run.specs.declared.refused.RunRefused.TheVariants as refused

@@ -22,7 +22,7 @@ use Rattle.scalar_exprs.specs.declared.expr.Expr.{Expr}
 use Rattle.scalar_exprs.specs.declared.refused.EvalRefused.{EvalRefused}
 use Rattle.scalar_exprs.specs.declared.refused.EvalRefused.TheVariants as eval
 use Rattle.scan_run.specs.Chains.{Scanned, over}
-use Rattle.scan_run.specs.Sources.{item_of, fault_of, files_from, missing, missing_from}
+use Rattle.csv_source.specs.TableItems.{item_of, fault_of, files_from, missing, missing_from}
 use Rattle.scan_run.specs.Written.{batch_rows, lines, WroteAll, WroteBefore}
 use Rattle.scan_run.specs.declared.refused.RunRefused.{RunRefused}
 use Rattle.scan_run.specs.declared.refused.RunRefused.TheVariants as refused

@@ -3,7 +3,7 @@
 ghost use Rattle.std.specs.Prelude.{◌≡◌, ◌<◌, ◌≤◌, ◌^◌, ◌+◌, ℕ, List, [], map, length, Some, None, Err, IfErr, OnOk};
 ghost use Rattle.dfx_outside.specs.Causes.{Rose, HandsOn};
 ghost use Rattle.dfx_outside.specs.Contents.{Contents, content};
-ghost use Rattle.scan_run.specs.Sources.{missing};
+ghost use Rattle.csv_source.specs.TableItems.{missing};
 ghost use Rattle.scan_run.specs.Words.{AreOpened, Opens, IsOfOpening};
 ghost use Rattle.scan_run.specs.declared.refused.RunRefused.TheVariants as refused;
 

@@ -10,7 +10,7 @@ ghost use Rattle.logical_plan.specs.Items.{concat};
 ghost use Rattle.result_text.specs.AnswerText.{header_line};
 ghost use Rattle.scan_run.specs.Chains as chain;
 ghost use Rattle.scan_run.specs.Chains.{Scanned};
-ghost use Rattle.scan_run.specs.Sources.{missing, file_items};
+ghost use Rattle.csv_source.specs.TableItems.{missing, file_items};
 ghost use Rattle.scan_run.specs.Written.{WroteAll, WroteBefore, WrotePart, BeganOver};
 ghost use Rattle.scan_run.specs.Outcomes.{Asked, HasFiles, Began, Ran, IsMet, IsOkOrMemory};
 ghost use Rattle.scan_run.specs.Words.{Tell, StopsIn, fault_named, items_of_all, IsOfRows, IsOfRun};

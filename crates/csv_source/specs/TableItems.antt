@@ -1,6 +1,7 @@
--- Meaning: the items of a table's CSV files.
+-- Meaning: the items of tables of CSV files: those of each file, a refusal as a fault that names table and file.
 use Rattle.std.specs.Prelude.{ℕ, ◌+◌, Option, Some, None, Ok, Err, List, [], ◌∷◌, map}
 use Rattle.dfx_outside.specs.Contents.{Contents, content}
+use Rattle.dfx_value.specs.Items.{Item}
 use Rattle.dfx_value.specs.declared.fault.ItemFault.{ItemFault}
 use Rattle.dfx_value.specs.declared.fault.ItemFault.TheVariants.{Csv}
 use Rattle.dfx_value.specs.declared.kind.Kind.{Kind}
@@ -8,8 +9,6 @@ use Rattle.csv_source.specs.CsvItems.{csv_items}
 use Rattle.csv_source.specs.CsvItems as csv
 use Rattle.csv_source.specs.declared.refused.CsvRefused.{CsvRefused}
 use Rattle.csv_source.specs.declared.refused.CsvRefused.TheVariants as refused
-use Rattle.logical_plan.specs.Items.{Item}
-use Rattle.logical_plan.specs.Body.{Tables}
 
 -- a refused record of a table's file: the number of the refusal, the record behind the header and the column, from 1, or 0.
 -- No file's items have the last two
@@ -45,7 +44,7 @@ pub record CsvTable : Type 0 where
   pub paths : List (List ℕ)
 
 -- the tables, of which the first has this number
-abbrev pub tables_from : Contents → ℕ → List CsvTable → Tables
+abbrev pub tables_from : Contents → ℕ → List CsvTable → List (List (List Item))
 tables_from all table [] = []
 tables_from all table (t ∷ ts) = table_files all table t.kinds t.paths ∷ tables_from all (table + 1) ts
 

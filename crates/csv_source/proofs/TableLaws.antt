@@ -1,7 +1,7 @@
 -- The files of one table among all.
 use Rattle.std.proofs.Common.{◌≡◌, ℕ, zero, suc, ◌+◌, List, [], ◌∷◌, Some, ap, ◌∙◌, slice_get, arith}
 use Rattle.dfx_outside.specs.Contents.{Contents}
-use Rattle.scan_run.specs.Sources.{CsvTable, table_files, tables_from}
+use Rattle.csv_source.specs.TableItems.{CsvTable, table_files, tables_from}
 
 -- the table with a number has the items of its files under that number
 pub tables-at : (all : Contents) (ts : List CsvTable) (first n : ℕ) (t : CsvTable) → slice_get ts n ≡ Some t → slice_get (tables_from all first ts) n ≡ Some (table_files all (first + n) t.kinds t.paths)
