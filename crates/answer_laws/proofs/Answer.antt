@@ -18,15 +18,15 @@ use Rattle.tree_laws.specs.Runs.{State, the_task, IsReached}
 use Rattle.tree_laws.proofs.Wholes.{whole_of}
 use Rattle.content_laws.specs.Whole.{past_in, tree_in, AreFull}
 use Rattle.content_laws.proofs.Flows.{flows}
-use Rattle.plan_tasks.specs.Trees.{Doing, Seed, partitions_of}
-use Rattle.plan_tasks.specs.Tops.{Written, top, tops}
-use Rattle.plan_tasks.specs.Starts.{tasks_by, tasks_in, start_of, split_by, consumers_in}
-use Rattle.plan_tasks.specs.Reading.{AreOperators}
-use Rattle.plan_tasks.specs.Placed.{deal_of, IsHashing, HasChannels}
-use Rattle.plan_tasks.proofs.Begun.{is_start}
-use Rattle.plan_tasks.proofs.Placed.{placed}
-use Rattle.plan_tasks.proofs.Senders.{are_senders}
-use Rattle.plan_tasks.proofs.Widths.{width_counts}
+use Rattle.plan_task_laws.specs.Trees.{Doing, Seed, partitions_of}
+use Rattle.plan_task_laws.specs.Tops.{Written, top, tops}
+use Rattle.plan_task_laws.specs.Starts.{tasks_by, tasks_in, start_of, split_by, consumers_in}
+use Rattle.plan_task_laws.specs.Reading.{AreOperators}
+use Rattle.plan_task_laws.specs.Placed.{deal_of, IsHashing, HasChannels}
+use Rattle.plan_task_laws.proofs.Begun.{is_start}
+use Rattle.plan_task_laws.proofs.Placed.{placed}
+use Rattle.plan_task_laws.proofs.Senders.{are_senders}
+use Rattle.plan_task_laws.proofs.Widths.{width_counts}
 use Rattle.answer_laws.specs.Kept.{IsKept}
 use Rattle.answer_laws.proofs.Feeds.{fed, root_gives}
 use Rattle.answer_laws.proofs.Recursion.{recursion}

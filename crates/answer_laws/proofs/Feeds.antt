@@ -27,14 +27,14 @@ use Rattle.content_laws.proofs.Bags.{sums_same, sums_front}
 use Rattle.content_laws.proofs.Flows.{flows}
 use Rattle.content_laws.proofs.Exchanges.{exchanged, passed_at, only_sender as sent_alone, lone_sender as sent_in_order}
 use Rattle.content_laws.proofs.SenderKinds.{hash_only}
-use Rattle.plan_tasks.specs.Trees.{Doing, Seed, leaf, partitions_of}
-use Rattle.plan_tasks.specs.Tops.{Way, Top, all_tops, tops, top, Written, width_by}
-use Rattle.plan_tasks.specs.Starts.{seeds_of, start_of, split_by}
-use Rattle.plan_tasks.specs.Reading.{AreOperators}
-use Rattle.plan_tasks.specs.Placed.{tasks_before, deal_by, deal_of, consumers_before, IsHashing, HasChannels}
-use Rattle.plan_tasks.proofs.Begun.{is_start}
-use Rattle.plan_tasks.proofs.Placed.{placed, stage_is, feeds, sender_of}
-use Rattle.plan_tasks.proofs.Senders.{are_senders, deal_is, only_sender, lone_sender}
+use Rattle.plan_task_laws.specs.Trees.{Doing, Seed, leaf, partitions_of}
+use Rattle.plan_task_laws.specs.Tops.{Way, Top, all_tops, tops, top, Written, width_by}
+use Rattle.plan_task_laws.specs.Starts.{seeds_of, start_of, split_by}
+use Rattle.plan_task_laws.specs.Reading.{AreOperators}
+use Rattle.plan_task_laws.specs.Placed.{tasks_before, deal_by, deal_of, consumers_before, IsHashing, HasChannels}
+use Rattle.plan_task_laws.proofs.Begun.{is_start}
+use Rattle.plan_task_laws.proofs.Placed.{placed, stage_is, feeds, sender_of}
+use Rattle.plan_task_laws.proofs.Senders.{are_senders, deal_is, only_sender, lone_sender}
 use Rattle.answer_laws.specs.Gives.{channels, Gives, AllGive}
 use Rattle.answer_laws.specs.Fed.{IsFed, AllFed}
 

@@ -25,16 +25,16 @@ use Rattle.tree_laws.specs.Runs.{State, the_task, IsReached}
 use Rattle.tree_laws.proofs.Wholes.{whole_of}
 use Rattle.content_laws.specs.Whole.{past_in, tree_in, AreFull}
 use Rattle.content_laws.proofs.Flows.{flows}
-use Rattle.plan_tasks.specs.Trees.{Doing, Seed, leaf, node, passing, partitions_of}
-use Rattle.plan_tasks.specs.Tops.{Top, Written, top, tops}
-use Rattle.plan_tasks.specs.Starts.{start_of}
-use Rattle.plan_tasks.specs.Reading.{AreOperators}
-use Rattle.plan_tasks.specs.Placed.{consumers_before, deal_of, IsHashing, HasChannels}
-use Rattle.plan_tasks.proofs.Begun.{is_start}
-use Rattle.plan_tasks.proofs.Laws.{grown, topped}
-use Rattle.plan_tasks.proofs.Placed.{placed}
-use Rattle.plan_tasks.proofs.Senders.{are_senders}
-use Rattle.plan_tasks.proofs.Widths.{width_counts}
+use Rattle.plan_task_laws.specs.Trees.{Doing, Seed, leaf, node, passing, partitions_of}
+use Rattle.plan_task_laws.specs.Tops.{Top, Written, top, tops}
+use Rattle.plan_task_laws.specs.Starts.{start_of}
+use Rattle.plan_task_laws.specs.Reading.{AreOperators}
+use Rattle.plan_task_laws.specs.Placed.{consumers_before, deal_of, IsHashing, HasChannels}
+use Rattle.plan_task_laws.proofs.Begun.{is_start}
+use Rattle.plan_task_laws.proofs.Laws.{grown, topped}
+use Rattle.plan_task_laws.proofs.Placed.{placed}
+use Rattle.plan_task_laws.proofs.Senders.{are_senders}
+use Rattle.plan_task_laws.proofs.Widths.{width_counts}
 use Rattle.sort_laws.proofs.Roots.{limit_root}
 use Rattle.answer_laws.specs.Gives.{Gives, AllGive}
 use Rattle.answer_laws.specs.Fed.{AllFed}

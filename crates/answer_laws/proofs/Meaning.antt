@@ -26,7 +26,7 @@ use Rattle.logical_plan.specs.Body.{Tables}
 use Rattle.content_laws.specs.Bags.{SameBag, sum_below, together, Alike}
 use Rattle.content_laws.proofs.Bags.{sums_front}
 use Rattle.tree_laws.specs.Trees.{in_files}
-use Rattle.plan_tasks.specs.Trees.{Doing, dealt_files}
+use Rattle.plan_task_laws.specs.Trees.{Doing, dealt_files}
 use Rattle.answer_laws.specs.Gives.{Yields, AllYield, AllJoin}
 use Rattle.answer_laws.specs.Kept.{AllHold, IsKept}
 use Rattle.answer_laws.specs.Meant.{Grouping, Meaning, answered, meant_node, meaning_of, grouping, Phases, TellsBy, Tells, files_of, is_whole, all_told, same_numbers, same_call, same_calls, finishes, told_node, is_told}

@@ -4,7 +4,7 @@ use Rattle.physical_plan.specs.Numbers.{numbers}
 use Rattle.logical_plan.specs.Items.{Item}
 use Rattle.tree_laws.specs.Operators.{Op}
 use Rattle.tree_laws.specs.Trees.{File, Tree, Nothing, form, in_files}
-use Rattle.plan_tasks.specs.Trees.{Seed, node, inlet, leaf, scanning, passing, holding, pairing, paired, merged}
+use Rattle.plan_task_laws.specs.Trees.{Seed, node, inlet, leaf, scanning, passing, holding, pairing, paired, merged}
 use Rattle.answer_laws.specs.Gives.{channels, Gives, AllGive, Yields, AllYield, AllJoin}
 
 module _ (full : ℕ → ℕ → List Item) where

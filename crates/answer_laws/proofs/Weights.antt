@@ -9,7 +9,7 @@ use Rattle.tree_laws.specs.Operators.{Told, IsSplit, ReadsAll, Op}
 use Rattle.content_laws.specs.Bags.{SameBag, sum_below, together, Alike}
 use Rattle.content_laws.proofs.Bags.{sums_same, sums_add, sums_zero, sums_at, sums_front}
 use Rattle.tree_laws.specs.Trees.{in_files}
-use Rattle.plan_tasks.specs.Trees.{dealt_files}
+use Rattle.plan_task_laws.specs.Trees.{dealt_files}
 use Rattle.answer_laws.specs.Gives.{AllYield}
 
 pub same_alike : (xs ys : List Item) → SameBag xs ys → Alike xs ys

@@ -6,8 +6,8 @@ use Rattle.core_frame.specs.declared.place.Place.TheVariants.{Done}
 use Rattle.physical_plan.specs.declared.plan.Plan.{Plan}
 use Rattle.plan_shape.specs.Layout.{shape}
 use Rattle.tree_laws.specs.Runs.{State, IsReached}
-use Rattle.plan_tasks.specs.Trees.{Doing}
-use Rattle.plan_tasks.specs.Starts.{start_of}
+use Rattle.plan_task_laws.specs.Trees.{Doing}
+use Rattle.plan_task_laws.specs.Starts.{start_of}
 
 -- a state of a run of the plan in which the root has finished
 pub record IsFinishedRun (f : Doing) (p : Plan) (s : State) : Type 0 where

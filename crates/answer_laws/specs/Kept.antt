@@ -17,8 +17,8 @@ use Rattle.content_laws.specs.Bags.{SameBag}
 use Rattle.content_laws.specs.Subsequences.{IsSubsequence}
 use Rattle.content_laws.specs.SenderKinds.{is_at}
 use Rattle.tree_laws.specs.Trees.{in_files}
-use Rattle.plan_tasks.specs.Trees.{Doing, dealt_files}
-use Rattle.plan_tasks.specs.Tops.{ByHash, way_to}
+use Rattle.plan_task_laws.specs.Trees.{Doing, dealt_files}
+use Rattle.plan_task_laws.specs.Tops.{ByHash, way_to}
 use Rattle.answer_laws.specs.Gives.{Yields, AllYield, AllJoin}
 
 -- something holds of each plan and the lists of its partitions

@@ -23,12 +23,12 @@ use Rattle.tree_laws.specs.Trees.{Poll, Gives, Ends, Moves, Asks, poll, FormRead
 use Rattle.tree_laws.specs.Tasks.{Parts, Split, Task, Turn, Goes, Waits, Wait, top_turn, turn_by, turn, settled, settle}
 use Rattle.tree_laws.specs.Runs.{State, the_task, wait_by, wait_for, state_after, step_by, state_step, state_replay}
 use Rattle.content_laws.specs.Whole.{past_in}
-use Rattle.plan_tasks.specs.Trees.{Doing}
-use Rattle.plan_tasks.specs.Starts.{start_of}
-use Rattle.plan_tasks.specs.Sources.{files_of}
-use Rattle.plan_tasks.specs.Placed.{deal_of, HasChannels}
-use Rattle.plan_tasks.proofs.Begun.{is_start}
-use Rattle.plan_tasks.proofs.Senders.{are_senders}
+use Rattle.plan_task_laws.specs.Trees.{Doing}
+use Rattle.plan_task_laws.specs.Starts.{start_of}
+use Rattle.plan_task_laws.specs.Sources.{files_of}
+use Rattle.plan_task_laws.specs.Placed.{deal_of, HasChannels}
+use Rattle.plan_task_laws.proofs.Begun.{is_start}
+use Rattle.plan_task_laws.proofs.Senders.{are_senders}
 use Rattle.plan_shape.proofs.Lawful.{is_shape}
 use Rattle.tree_laws.proofs.Turns.{settle_keeps}
 use Rattle.tree_laws.proofs.Runs.{reached as run_reached}

@@ -17,11 +17,11 @@ use Rattle.tree_laws.specs.Trees.{Tree, Asks, poll, form}
 use Rattle.tree_laws.specs.Linked.{IsLinked, IsFlow}
 use Rattle.tree_laws.specs.Runs.{State, state_step, state_replay, IsReached}
 use Rattle.content_laws.specs.Whole.{tree_in, AreFull}
-use Rattle.plan_tasks.specs.Trees.{Doing, partitions_of}
-use Rattle.plan_tasks.specs.Tops.{tops}
-use Rattle.plan_tasks.specs.Starts.{start_of}
-use Rattle.plan_tasks.specs.Sources.{files_of, places_of}
-use Rattle.plan_tasks.specs.Placed.{deal_of, HasChannels}
+use Rattle.plan_task_laws.specs.Trees.{Doing, partitions_of}
+use Rattle.plan_task_laws.specs.Tops.{tops}
+use Rattle.plan_task_laws.specs.Starts.{start_of}
+use Rattle.plan_task_laws.specs.Sources.{files_of, places_of}
+use Rattle.plan_task_laws.specs.Placed.{deal_of, HasChannels}
 use Rattle.join_laws.proofs.Items.{fails, pass_weigh, pass_from}
 use Rattle.answer_laws.specs.Gives.{AllGive}
 use Rattle.answer_laws.specs.Fed.{AllFed}

@@ -27,7 +27,7 @@ use Rattle.logical_plan.specs.Body.{Tables, scan}
 use Rattle.content_laws.specs.Bags.{SameBag, together, Alike}
 use Rattle.content_laws.proofs.Bags.{sums_same}
 use Rattle.tree_laws.specs.Trees.{in_files}
-use Rattle.plan_tasks.specs.Trees.{Doing, dealt_files}
+use Rattle.plan_task_laws.specs.Trees.{Doing, dealt_files}
 use Rattle.phase_laws.specs.Phases.{phase, AreApart}
 use Rattle.phase_laws.proofs.Bags.{sum_by-map}
 use Rattle.phase_laws.proofs.Items.{rows_both, faults_both, apart_weigh, faults-phase, alike_rows, alike_faults}

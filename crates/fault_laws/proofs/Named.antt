@@ -10,9 +10,9 @@ use Rattle.physical_plan.specs.Numbers.{numbers_from}
 use Rattle.logical_plan.specs.Items.{Item, faults}
 use Rattle.logical_plan.specs.Body.{Tables}
 use Rattle.tree_laws.specs.Trees.{File}
-use Rattle.plan_tasks.specs.Trees.{Doing, sources_in}
-use Rattle.plan_tasks.specs.Sources.{files_of as plan_files, places_of, items_at}
-use Rattle.plan_tasks.proofs.Sources.{by_number, by_place}
+use Rattle.plan_task_laws.specs.Trees.{Doing, sources_in}
+use Rattle.plan_task_laws.specs.Sources.{files_of as plan_files, places_of, items_at}
+use Rattle.plan_task_laws.proofs.Sources.{by_number, by_place}
 use Rattle.answer_laws.specs.Meant.{files_of}
 use Rattle.answer_laws.proofs.Meaning.{both_true}
 use Rattle.fault_laws.specs.Found.{IsIn, Ends}

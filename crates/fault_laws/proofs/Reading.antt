@@ -9,7 +9,7 @@ use Rattle.physical_plan.specs.declared.plan.Plan.TheViews.{roll-Plan}
 use Rattle.physical_plan.specs.declared.plan.Plan.TheFolds.{fold-roll-Plan, para-roll-Plan, map-Plan, ind-Plan}
 use Rattle.logical_plan.specs.Items.{rows}
 use Rattle.logical_plan.specs.Body.{Tables}
-use Rattle.plan_tasks.specs.Sources.{reads_node, reads_all}
+use Rattle.plan_task_laws.specs.Sources.{reads_node, reads_all}
 use Rattle.answer_laws.specs.Meant.{meaning_of, meant, is_whole, all_told, finishes, files_of, told_node, is_told}
 use Rattle.answer_laws.proofs.Meaning.{both_true}
 use Rattle.finished_laws.specs.Sound.{on_properties}

@@ -18,17 +18,17 @@ use Rattle.tree_laws.specs.Operators.{Told, IsSplit, ReadsAll, Op}
 use Rattle.tree_laws.specs.Linked.{whole}
 use Rattle.tree_laws.specs.OperatorKinds as ops
 use Rattle.content_laws.specs.Whole.{tree_in, AreFull}
-use Rattle.plan_tasks.specs.Trees.{Doing, Growing, Seed, leaf, node, partitions_of, passing, tree_of}
-use Rattle.plan_tasks.specs.Tops.{Topping, Top, tops, all_tops}
-use Rattle.plan_tasks.specs.Starts.{seeds_of, start_of, tasks_of}
-use Rattle.plan_tasks.specs.Reading.{AreOperators, Opens}
-use Rattle.plan_tasks.specs.Sources.{files_of, seed_files, files_in, reads_all}
-use Rattle.plan_tasks.specs.Placed.{deal_of, HasChannels, consumers_before}
-use Rattle.plan_tasks.proofs.Laws.{grown, topped, part_of}
-use Rattle.plan_tasks.proofs.Begun.{is_start}
-use Rattle.plan_tasks.proofs.Placed.{placed}
-use Rattle.plan_tasks.proofs.Senders.{covered}
-use Rattle.plan_tasks.proofs.Sources.{all_read}
+use Rattle.plan_task_laws.specs.Trees.{Doing, Growing, Seed, leaf, node, partitions_of, passing, tree_of}
+use Rattle.plan_task_laws.specs.Tops.{Topping, Top, tops, all_tops}
+use Rattle.plan_task_laws.specs.Starts.{seeds_of, start_of, tasks_of}
+use Rattle.plan_task_laws.specs.Reading.{AreOperators, Opens}
+use Rattle.plan_task_laws.specs.Sources.{files_of, seed_files, files_in, reads_all}
+use Rattle.plan_task_laws.specs.Placed.{deal_of, HasChannels, consumers_before}
+use Rattle.plan_task_laws.proofs.Laws.{grown, topped, part_of}
+use Rattle.plan_task_laws.proofs.Begun.{is_start}
+use Rattle.plan_task_laws.proofs.Placed.{placed}
+use Rattle.plan_task_laws.proofs.Senders.{covered}
+use Rattle.plan_task_laws.proofs.Sources.{all_read}
 use Rattle.join_laws.proofs.Items.{pass_weigh, pass_from}
 use Rattle.answer_laws.specs.Gives.{AllGive}
 use Rattle.answer_laws.specs.Fed.{AllFed}

@@ -25,10 +25,10 @@ use Rattle.logical_plan.specs.Body.{Tables, meant_part}
 use Rattle.tree_laws.specs.Runs.{State, the_task}
 use Rattle.content_laws.specs.Bags.{Alike}
 use Rattle.content_laws.proofs.Flows.{exist}
-use Rattle.plan_tasks.specs.Trees.{Doing}
-use Rattle.plan_tasks.specs.Starts.{start_of}
-use Rattle.plan_tasks.specs.Placed.{deal_of}
-use Rattle.plan_tasks.proofs.Begun.{is_start}
+use Rattle.plan_task_laws.specs.Trees.{Doing}
+use Rattle.plan_task_laws.specs.Starts.{start_of}
+use Rattle.plan_task_laws.specs.Placed.{deal_of}
+use Rattle.plan_task_laws.proofs.Begun.{is_start}
 use Rattle.sort_laws.proofs.Answers.{all_given, rows_back}
 use Rattle.node_laws.specs.Tests.{needs_in_range}
 use Rattle.answer_laws.specs.Meant.{Meaning, Phases, is_told, is_whole}

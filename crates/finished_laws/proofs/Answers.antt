@@ -20,11 +20,11 @@ use Rattle.logical_plan.specs.Body.{Tables}
 use Rattle.tree_laws.specs.Runs.{State, the_task}
 use Rattle.content_laws.specs.Bags.{Alike}
 use Rattle.content_laws.proofs.Flows.{exist}
-use Rattle.plan_tasks.specs.Trees.{Doing, partitions_of}
-use Rattle.plan_tasks.specs.Tops.{tops}
-use Rattle.plan_tasks.specs.Starts.{start_of}
-use Rattle.plan_tasks.specs.Placed.{deal_of, HasChannels}
-use Rattle.plan_tasks.proofs.Begun.{is_start}
+use Rattle.plan_task_laws.specs.Trees.{Doing, partitions_of}
+use Rattle.plan_task_laws.specs.Tops.{tops}
+use Rattle.plan_task_laws.specs.Starts.{start_of}
+use Rattle.plan_task_laws.specs.Placed.{deal_of, HasChannels}
+use Rattle.plan_task_laws.proofs.Begun.{is_start}
 use Rattle.node_laws.specs.Nodes.{Stands}
 use Rattle.node_laws.specs.Tests.{needs_in_range}
 use Rattle.answer_laws.specs.Gives.{AllGive}

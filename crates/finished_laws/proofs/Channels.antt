@@ -10,10 +10,10 @@ use Rattle.physical_plan.specs.declared.plan.Plan.TheViews.{roll-Plan}
 use Rattle.physical_plan.specs.declared.plan.Plan.TheFolds.{map-Plan, ind-Plan}
 use Rattle.physical_plan.specs.Everywhere.{Test, node_holds, everywhere, all_true}
 use Rattle.planned_laws.specs.Finished.{lean, goes_to, IsFinished}
-use Rattle.plan_tasks.specs.Trees.{stages_in, sources_in}
-use Rattle.plan_tasks.specs.Tops.{Top, Topping, top_node, tops, tops_after, way_to}
-use Rattle.plan_tasks.specs.Placed.{IsOpen, AllOpen, HasChannels}
-use Rattle.plan_tasks.proofs.Laws.{topped}
+use Rattle.plan_task_laws.specs.Trees.{stages_in, sources_in}
+use Rattle.plan_task_laws.specs.Tops.{Top, Topping, top_node, tops, tops_after, way_to}
+use Rattle.plan_task_laws.specs.Placed.{IsOpen, AllOpen, HasChannels}
+use Rattle.plan_task_laws.proofs.Laws.{topped}
 use Rattle.answer_laws.proofs.Meaning.{both_true, equal_is}
 use Rattle.finished_laws.proofs.Everywhere.{rolled, seconds, one_below, two_below}
 

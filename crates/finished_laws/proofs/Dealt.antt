@@ -7,7 +7,7 @@ use Rattle.node_laws.specs.NodeRows.{HoldsIn, Dealt, IsSubsequence as AreSomeOf}
 use Rattle.logical_plan.specs.Items.{Item, rows, concat}
 use Rattle.content_laws.specs.Bags.{SameBag}
 use Rattle.content_laws.specs.Subsequences.{IsSubsequence}
-use Rattle.plan_tasks.proofs.Branches.{map_length}
+use Rattle.plan_task_laws.proofs.Branches.{map_length}
 use Rattle.node_laws.specs.Nodes.{IsWide}
 use Rattle.answer_laws.specs.Kept.{KeepsOrder}
 use Rattle.finished_laws.proofs.Held.{each_by, each_at, part_rows, from_bag}

@@ -24,7 +24,7 @@ use Rattle.logical_plan.specs.Items.{Cells, Item, rows}
 use Rattle.logical_plan.specs.Joins.{cells_match, keys_match}
 use Rattle.logical_plan.specs.Groups.{alike}
 use Rattle.logical_plan.specs.Body.{Tables}
-use Rattle.plan_tasks.proofs.Branches.{map_length}
+use Rattle.plan_task_laws.proofs.Branches.{map_length}
 use Rattle.node_laws.specs.Nodes.{Stands}
 use Rattle.phase_laws.specs.Phases.{AreApart}
 use Rattle.join_laws.specs.Joining.{AreMatched}

@@ -2,8 +2,8 @@
 use Rattle.std.proofs.Common.{ℕ, ◌<◌, sym, subst}
 use Rattle.std.proofs.Math.Nat.{mod-lt}
 use Rattle.plan_props.specs.Meets.{Hashing, cells_at}
-use Rattle.plan_tasks.specs.Trees.{Doing}
-use Rattle.plan_tasks.specs.Placed.{IsHashing}
+use Rattle.plan_task_laws.specs.Trees.{Doing}
+use Rattle.plan_task_laws.specs.Placed.{IsHashing}
 use Rattle.finished_laws.specs.Rows.{IsChannelOf}
 
 pub hashing_of : (h : Hashing) (f : Doing) → IsChannelOf h f → IsHashing f

@@ -15,7 +15,7 @@ use Rattle.logical_plan.specs.declared.query.Query.{Query}
 use Rattle.logical_plan.specs.Body.{Tables}
 use Rattle.tree_laws.specs.Runs.{State, the_task}
 use Rattle.logical_plan.specs.Allowed.{Allowed}
-use Rattle.plan_tasks.specs.Trees.{Doing}
+use Rattle.plan_task_laws.specs.Trees.{Doing}
 use Rattle.node_laws.specs.Tests.{needs_in_range}
 use Rattle.answer_laws.specs.Kept.{IsKept}
 use Rattle.answer_laws.specs.Meant.{Phases, is_told}

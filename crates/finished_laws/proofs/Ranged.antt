@@ -4,7 +4,7 @@ use Rattle.node_laws.specs.NodeRows.{Holds}
 use Rattle.physical_plan.specs.Numbers.{numbers}
 use Rattle.logical_plan.specs.Items.{Cells, Item, rows, concat}
 use Rattle.tree_laws.specs.Trees.{in_files}
-use Rattle.plan_tasks.specs.Trees.{dealt_files}
+use Rattle.plan_task_laws.specs.Trees.{dealt_files}
 use Rattle.answer_laws.proofs.Weights.{items_fuse}
 use Rattle.answer_laws.proofs.Meaning.{both_true, equal_is}
 use Rattle.finished_laws.specs.Sound.{are_wide}

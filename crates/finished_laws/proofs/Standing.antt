@@ -34,8 +34,8 @@ use Rattle.tree_laws.specs.Operators.{Told, IsSplit, ReadsAll, Op}
 use Rattle.content_laws.specs.Bags.{SameBag}
 use Rattle.content_laws.specs.SenderKinds.{is_at}
 use Rattle.tree_laws.specs.Trees.{in_files}
-use Rattle.plan_tasks.specs.Trees.{Doing, dealt_files}
-use Rattle.plan_tasks.proofs.Branches.{numbers_length, map_length}
+use Rattle.plan_task_laws.specs.Trees.{Doing, dealt_files}
+use Rattle.plan_task_laws.proofs.Branches.{numbers_length, map_length}
 use Rattle.node_laws.specs.Nodes.{Stands, IsWide, Input, JoinRow, AllStand, HaveWidth, rows_of}
 use Rattle.node_laws.specs.Rows.{GroupRow, AnswerRow, AllDiffer}
 use Rattle.node_laws.proofs.Weavings.{gathered_meets}

@@ -15,7 +15,7 @@ use Rattle.physical_plan.specs.Everywhere.{node_holds, everywhere, all_true}
 use Rattle.scalar_exprs.specs.Kinds.{kind_of, call_kind}
 use Rattle.logical_plan.specs.Items.{Cells, rows}
 use Rattle.logical_plan.specs.Body.{Tables, kind_or_text, key_kinds, call_kinds}
-use Rattle.plan_tasks.proofs.Branches.{numbers_length, map_length}
+use Rattle.plan_task_laws.proofs.Branches.{numbers_length, map_length}
 use Rattle.answer_laws.specs.Meant.{Grouping, Meaning, answered, meant_node, meaning_of, meant, first_kinds, is_whole, all_told, finishes, same_numbers, same_calls, told_node, is_told}
 use Rattle.answer_laws.proofs.Meaning.{both_true, same_numbers_are, same_calls_are}
 use Rattle.answer_laws.proofs.Built.{means}

@@ -6,8 +6,8 @@ use Rattle.physical_plan.specs.declared.plan.Plan.{Plan}
 use Rattle.physical_plan.specs.declared.plan.Plan.TheOpen.{Plan-F}
 use Rattle.logical_plan.specs.Body.{Tables}
 use Rattle.tree_laws.specs.OperatorKinds.{limit_op}
-use Rattle.plan_tasks.specs.Trees.{Doing}
-use Rattle.plan_tasks.specs.Reading.{AreOperators}
+use Rattle.plan_task_laws.specs.Trees.{Doing}
+use Rattle.plan_task_laws.specs.Reading.{AreOperators}
 use Rattle.answer_laws.specs.Meant.{Phases}
 use Rattle.answer_laws.specs.Answering.{IsAnswering}
 use Rattle.answer_laws.specs.Parted.{LawsOfParts}

@@ -13,8 +13,8 @@ use Rattle.scalar_exprs.specs.Truth.{is_null}
 use Rattle.logical_plan.specs.Items.{Cells}
 use Rattle.logical_plan.specs.Joins.{cells_match, keys_match, residual, right_pairs}
 use Rattle.physical_plan.specs.Properties.{left_keys, right_keys}
-use Rattle.key_table.specs.Entries.{upsert, find}
-use Rattle.key_table.proofs.Found.{find-upsert}
+use Rattle.key_laws.specs.Entries.{upsert, find}
+use Rattle.key_laws.proofs.Found.{find-upsert}
 use Rattle.join_laws.specs.Tables.{KeyPlaces, enter, entered, matches, places_of, row_at}
 
 -- ---- all places of a key

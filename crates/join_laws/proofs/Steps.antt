@@ -11,7 +11,7 @@ use Rattle.logical_plan.specs.Joins.{residual, nulls, alone, left_alone, right_p
 use Rattle.physical_plan.specs.Properties.{left_keys, right_keys}
 use Rattle.tree_laws.specs.Operators.{Told, with_rows, with_end, with_flush}
 use Rattle.content_laws.proofs.Items.{rows_of_rows, faults_of_rows}
-use Rattle.key_table.specs.Entries.{find}
+use Rattle.key_laws.specs.Entries.{find}
 use Rattle.join_laws.specs.Joining.{probe, last}
 use Rattle.join_laws.specs.Tables.{KeyPlaces, entered, matches, row_at, marked, marks_after, unmarked}
 use Rattle.join_laws.specs.States.{Join, op_of, JoinState, at_start, places_at, pairs_at, given_by, took_left, took_right, accepted, ended, gave, StandsFor}

@@ -8,7 +8,7 @@ use Rattle.logical_plan.specs.Items.{Cells, Item}
 use Rattle.logical_plan.specs.Joins.{residual, nulls, alone, keeps_left, keeps_right, when}
 use Rattle.physical_plan.specs.Properties.{left_keys, right_keys}
 use Rattle.tree_laws.specs.Operators.{Told, Op}
-use Rattle.key_table.specs.Entries.{find}
+use Rattle.key_laws.specs.Entries.{find}
 use Rattle.join_laws.specs.Joining.{hash_join}
 use Rattle.join_laws.specs.Tables.{KeyPlaces, entered, row_at, marked, marks_after, unmarked}
 

@@ -7,7 +7,7 @@ use Rattle.scalar_exprs.specs.Truth.{is_null}
 use Rattle.logical_plan.specs.Items.{Cells, Item}
 use Rattle.logical_plan.specs.Joins.{residual, nulls}
 use Rattle.physical_plan.specs.Properties.{left_keys, right_keys}
-use Rattle.key_table.specs.Entries.{upsert, find}
+use Rattle.key_laws.specs.Entries.{upsert, find}
 use Rattle.tree_laws.specs.OperatorKinds.{is_empty}
 
 -- ---- the places of left rows, by their keys

@@ -5,8 +5,8 @@ use Rattle.physical_plan.specs.declared.plan.Plan.TheOpen.{Plan-F}
 use Rattle.logical_plan.specs.Items.{Cells}
 use Rattle.logical_plan.specs.Body.{Tables}
 use Rattle.tree_laws.specs.OperatorKinds.{end_op}
-use Rattle.plan_tasks.specs.Reading.{AreOperators}
-use Rattle.plan_tasks.proofs.Operators.{are_operators}
+use Rattle.plan_task_laws.specs.Reading.{AreOperators}
+use Rattle.plan_task_laws.proofs.Operators.{are_operators}
 use Rattle.answer_laws.specs.Meant.{Grouping, files_of}
 use Rattle.part_laws.specs.Made.{Amount, IsMade}
 use Rattle.part_laws.specs.Doing.{second_of, node_items, the_doing}

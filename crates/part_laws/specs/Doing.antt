@@ -4,8 +4,8 @@ use Rattle.physical_plan.specs.declared.plan.Plan.{Plan}
 use Rattle.physical_plan.specs.declared.plan.Plan.TheOpen.{Plan-F}
 use Rattle.logical_plan.specs.Items.{Cells, Item, filtered, projected}
 use Rattle.logical_plan.specs.Body.{Tables}
-use Rattle.plan_tasks.specs.Trees.{Doing}
-use Rattle.plan_tasks.specs.Operators.{NodeItems, operator_of}
+use Rattle.plan_task_laws.specs.Trees.{Doing}
+use Rattle.plan_task_laws.specs.Operators.{NodeItems, operator_of}
 use Rattle.sort_laws.specs.Sorting.{item_before, sort_items}
 use Rattle.join_laws.specs.Joining.{probe, last}
 use Rattle.answer_laws.specs.Meant.{Grouping, grouping, meaning_of, files_of}

@@ -20,7 +20,7 @@ use Rattle.dfx_value.proofs.OrderLemmas.{ints, decimals}
 use Rattle.dfx_value.proofs.DecimalLemmas.{int_cmp_scaled, ten_positive}
 use Rattle.scalar_exprs.specs.Truth.{is_null}
 use Rattle.scalar_exprs.specs.Groups.{key_list, same_keys, same_value}
-use Rattle.key_table.proofs.Found.{same_keys_laws}
+use Rattle.key_laws.proofs.Found.{same_keys_laws}
 use Rattle.phase_laws.proofs.Firsts.{IsExactAmong}
 
 pub int_equal : (a b : ℤ) → int_cmp a b ≡ Equal → a ≡ b

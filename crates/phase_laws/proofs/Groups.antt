@@ -10,7 +10,7 @@ use Rattle.phase_laws.specs.Phases.{grouped}
 use Rattle.phase_laws.proofs.Bags.{Each, each_more, each_both, each-filter, sum_each, each-map}
 use Rattle.content_laws.proofs.Weights.{sum_by-map, sum_same}
 use Rattle.phase_laws.proofs.Firsts.{IsExactAmong, firsts_same, firsts-append, firsts-map}
-use Rattle.key_table.proofs.Found.{same_keys_laws}
+use Rattle.key_laws.proofs.Found.{same_keys_laws}
 
 -- a group's rows, by its keys
 abbrev pub of_keys : {R : Type 0} → (R → Cells) → Cells → List R → List R

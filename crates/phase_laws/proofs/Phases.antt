@@ -22,7 +22,7 @@ use Rattle.phase_laws.proofs.Bags.{Each, each_more, each-append, each_left, each
 use Rattle.content_laws.proofs.Weights.{bag-filter, bag-map, bag_any}
 use Rattle.phase_laws.proofs.Firsts.{any-firsts}
 use Rattle.phase_laws.proofs.Exact.{key_fits, key_list_fits, keys_exact}
-use Rattle.key_table.proofs.Found.{same_keys_laws}
+use Rattle.key_laws.proofs.Found.{same_keys_laws}
 use Rattle.phase_laws.proofs.Groups.{of_keys, like, any-map, grouped_same, each-firsts}
 use Rattle.phase_laws.proofs.Core.{piece, map-append, EachOf, answers_are, agg_order}
 

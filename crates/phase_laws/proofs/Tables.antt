@@ -17,9 +17,9 @@ use Rattle.phase_laws.specs.States.{State, state_of, merged, read, cells_of, fin
 use Rattle.physical_plan.specs.Properties.{state_width}
 use Rattle.phase_laws.specs.Phases.{grouped, states_of, phase_row, phase_rows, told_kind, answers, final_item}
 use Rattle.phase_laws.specs.Tables.{table_step, table, starts, with_row, all_cells, with_cells, all_finished, finished_item}
-use Rattle.key_table.specs.Entries.{upsert}
+use Rattle.key_laws.specs.Entries.{upsert}
 use Rattle.phase_laws.proofs.Bags.{Each, each-filter}
-use Rattle.key_table.proofs.Found.{same_keys_laws}
+use Rattle.key_laws.proofs.Found.{same_keys_laws}
 use Rattle.phase_laws.proofs.Groups.{like, not_any, none_kept}
 use Rattle.phase_laws.proofs.Core.{map-append, one_step, fold_rows}
 

@@ -7,7 +7,7 @@ use Rattle.scalar_exprs.specs.Agg.{argument}
 use Rattle.scalar_exprs.specs.Functions.{Outcome}
 use Rattle.scalar_exprs.specs.Kinds.{argument_kind}
 use Rattle.logical_plan.specs.Items.{Cells, Item, all_values, as_item}
-use Rattle.key_table.specs.Entries.{upsert}
+use Rattle.key_laws.specs.Entries.{upsert}
 use Rattle.phase_laws.specs.States.{State, state_of, merged, read, cells_of, finished}
 use Rattle.physical_plan.specs.Properties.{state_width}
 use Rattle.phase_laws.specs.Phases.{told_kind}

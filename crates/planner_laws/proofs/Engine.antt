@@ -4,8 +4,8 @@ use Rattle.plan_props.specs.Meets.{Hashing, IsHash}
 use Rattle.physical_plan.specs.declared.plan.Plan.{Plan}
 use Rattle.physical_plan.specs.declared.plan.Plan.TheOpen.{Plan-F}
 use Rattle.logical_plan.specs.Body.{Tables}
-use Rattle.plan_tasks.specs.Trees.{Doing}
-use Rattle.plan_tasks.specs.Reading.{AreOperators}
+use Rattle.plan_task_laws.specs.Trees.{Doing}
+use Rattle.plan_task_laws.specs.Reading.{AreOperators}
 use Rattle.part_laws.specs.Phased.{the_phases}
 use Rattle.part_laws.specs.Made.{Amount, IsMade}
 use Rattle.part_laws.specs.Doing.{the_doing}

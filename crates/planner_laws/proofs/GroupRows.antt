@@ -24,7 +24,7 @@ use Rattle.scalar_exprs.specs.Agg.{argument}
 use Rattle.scalar_exprs.specs.Kinds.{argument_kind}
 use Rattle.scalar_exprs.specs.Groups.{key_list, same_keys, firsts}
 use Rattle.logical_plan.specs.Items.{Cells, Item, rows, faults, all_values, as_item}
-use Rattle.plan_tasks.proofs.Branches.{map_length}
+use Rattle.plan_task_laws.proofs.Branches.{map_length}
 use Rattle.node_laws.specs.Nodes.{IsWide}
 use Rattle.node_laws.specs.Rows.{GroupRow, AnswerRow, Differ, AllDiffer}
 use Rattle.phase_laws.specs.States.{state_of, cells_of}

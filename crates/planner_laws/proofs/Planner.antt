@@ -13,7 +13,7 @@ use Rattle.logical_plan.specs.declared.query.Query.{Query}
 use Rattle.logical_plan.specs.Allowed.{Allowed}
 use Rattle.logical_plan.specs.Body.{Tables}
 use Rattle.tree_laws.specs.Runs.{State, the_task}
-use Rattle.plan_tasks.specs.Trees.{Doing}
+use Rattle.plan_task_laws.specs.Trees.{Doing}
 use Rattle.answer_laws.specs.Distincts.{has_distincts}
 use Rattle.answer_laws.specs.Finished.{IsFinishedRun}
 use Rattle.part_laws.specs.Phased.{the_phases}

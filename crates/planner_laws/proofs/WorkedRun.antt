@@ -24,9 +24,9 @@ use Rattle.logical_plan.specs.Body.{Tables}
 use Rattle.tree_laws.specs.Tasks.{Task}
 use Rattle.tree_laws.specs.Runs.{State, the_task, state_replay}
 use Rattle.content_laws.specs.SenderKinds.{whole_split}
-use Rattle.plan_tasks.specs.Trees.{Doing, inlet, scan}
-use Rattle.plan_tasks.specs.Starts.{starting, tasks_of, start_of}
-use Rattle.plan_tasks.proofs.Laws.{grown, topped}
+use Rattle.plan_task_laws.specs.Trees.{Doing, inlet, scan}
+use Rattle.plan_task_laws.specs.Starts.{starting, tasks_of, start_of}
+use Rattle.plan_task_laws.proofs.Laws.{grown, topped}
 use Rattle.part_laws.specs.Made.{Amount}
 use Rattle.part_laws.specs.Doing.{the_doing}
 use Rattle.planner_laws.specs.Channels.{channel_by}

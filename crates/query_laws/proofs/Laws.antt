@@ -28,10 +28,10 @@ use Rattle.known_laws.proofs.Known.{csv_met}
 use Rattle.tree_laws.specs.Runs.{State, the_task, IsReached}
 use Rattle.tree_laws.proofs.Runs.{reached}
 use Rattle.tree_laws.proofs.Settles.{replay_more, leads_front}
-use Rattle.plan_tasks.specs.Trees.{Doing}
-use Rattle.plan_tasks.specs.Starts.{start_of}
-use Rattle.plan_tasks.specs.Sources.{places_of}
-use Rattle.plan_tasks.proofs.Begun.{is_start}
+use Rattle.plan_task_laws.specs.Trees.{Doing}
+use Rattle.plan_task_laws.specs.Starts.{start_of}
+use Rattle.plan_task_laws.specs.Sources.{places_of}
+use Rattle.plan_task_laws.proofs.Begun.{is_start}
 use Rattle.answer_laws.specs.Distincts.{has_distincts}
 use Rattle.part_laws.specs.Phased.{the_phases}
 use Rattle.finished_laws.specs.Known.{is_known}

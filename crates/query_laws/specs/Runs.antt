@@ -14,8 +14,8 @@ use Rattle.dfx_prepare.specs.Preparing.{Path, schema_of, script_of, prepared}
 use Rattle.dfx_prepare.specs.declared.prepared.Prepared.{Prepared}
 use Rattle.tree_laws.specs.Runs.{State}
 use Rattle.tree_laws.specs.Settles.{Leads}
-use Rattle.plan_tasks.specs.Trees.{Doing}
-use Rattle.plan_tasks.specs.Starts.{start_of}
+use Rattle.plan_task_laws.specs.Trees.{Doing}
+use Rattle.plan_task_laws.specs.Starts.{start_of}
 use Rattle.part_laws.specs.Made.{Amount}
 use Rattle.part_laws.specs.Doing.{the_doing}
 use Rattle.planner_laws.specs.Channels.{channel_by}

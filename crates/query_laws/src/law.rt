@@ -9,7 +9,7 @@ ghost use Rattle.core_frame.specs.declared.place.Place.TheVariants.{Done};
 ghost use Rattle.logical_plan.specs.Body.{all_faults};
 ghost use Rattle.logical_plan.specs.Allowed.{Allowed};
 ghost use Rattle.tree_laws.specs.Runs.{State, the_task};
-ghost use Rattle.plan_tasks.specs.Sources.{places_of};
+ghost use Rattle.plan_task_laws.specs.Sources.{places_of};
 ghost use Rattle.part_laws.specs.Phased.{the_phases};
 ghost use Rattle.fault_laws.specs.Found.{is_of_fault};
 ghost use Rattle.fault_laws.specs.Named.{EndsAt};

@@ -11,12 +11,12 @@ use Rattle.tree_laws.specs.Runs.{State, IsReached}
 use Rattle.content_laws.specs.SenderKinds.{is_at}
 use Rattle.content_laws.specs.Whole.{past_in, AreFull, IsFull}
 use Rattle.content_laws.proofs.Bags.{none_fails, all_pass, fails}
-use Rattle.plan_tasks.specs.Trees.{Doing}
-use Rattle.plan_tasks.specs.Tops.{Written, ByHash, Top, all_tops}
-use Rattle.plan_tasks.specs.Starts.{start_of}
-use Rattle.plan_tasks.specs.Reading.{AreOperators}
-use Rattle.plan_tasks.specs.Placed.{deal_of, IsHashing, HasChannels}
-use Rattle.plan_tasks.proofs.Placed.{stage_is}
+use Rattle.plan_task_laws.specs.Trees.{Doing}
+use Rattle.plan_task_laws.specs.Tops.{Written, ByHash, Top, all_tops}
+use Rattle.plan_task_laws.specs.Starts.{start_of}
+use Rattle.plan_task_laws.specs.Reading.{AreOperators}
+use Rattle.plan_task_laws.specs.Placed.{deal_of, IsHashing, HasChannels}
+use Rattle.plan_task_laws.proofs.Placed.{stage_is}
 use Rattle.answer_laws.proofs.Feeds.{fed_at}
 use Rattle.state_laws.specs.Good.{CarriesOwn}
 

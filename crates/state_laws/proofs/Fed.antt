@@ -5,9 +5,9 @@ use Rattle.physical_plan.specs.declared.plan.Plan.TheOpen.{Plan-F}
 use Rattle.physical_plan.specs.declared.plan.Plan.TheViews.{roll-Plan}
 use Rattle.physical_plan.specs.declared.plan.Plan.TheFolds.{map-Plan}
 use Rattle.logical_plan.specs.Items.{Item}
-use Rattle.plan_tasks.specs.Trees.{Doing, stages_in, sources_in}
-use Rattle.plan_tasks.specs.Tops.{Topping, top_node, tops, tops_after}
-use Rattle.plan_tasks.proofs.Laws.{topped}
+use Rattle.plan_task_laws.specs.Trees.{Doing, stages_in, sources_in}
+use Rattle.plan_task_laws.specs.Tops.{Topping, top_node, tops, tops_after}
+use Rattle.plan_task_laws.proofs.Laws.{topped}
 use Rattle.answer_laws.specs.Fed.{AllFed}
 use Rattle.answer_laws.proofs.Recursion.{fed_apart}
 use Rattle.state_laws.proofs.Inherited.{AllFrom, Below}

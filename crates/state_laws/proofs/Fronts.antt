@@ -10,7 +10,7 @@ use Rattle.tree_laws.proofs.Wholes.{whole_of}
 use Rattle.tree_laws.proofs.Subtrees.{linked_inside, inlet_inside}
 use Rattle.tree_laws.specs.Runs.{State}
 use Rattle.content_laws.specs.Whole.{past_in, tree_in}
-use Rattle.plan_tasks.specs.Trees.{Seed}
+use Rattle.plan_task_laws.specs.Trees.{Seed}
 use Rattle.answer_laws.specs.Gives.{Gives, AllGive}
 use Rattle.answer_laws.proofs.Feeds.{gives}
 use Rattle.state_laws.specs.Good.{AreTreesOf, IsBegunOf, AreBegunOf}

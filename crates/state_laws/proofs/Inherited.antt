@@ -5,7 +5,7 @@ use Rattle.physical_plan.specs.declared.plan.Plan.{Plan}
 use Rattle.physical_plan.specs.declared.plan.Plan.TheOpen.{Plan-F}
 use Rattle.physical_plan.specs.declared.plan.Plan.TheViews.{roll-Plan}
 use Rattle.physical_plan.specs.declared.plan.Plan.TheFolds.{para-roll-Plan, map-Plan, ind-Plan}
-use Rattle.plan_tasks.specs.Trees.{stages_in, sources_in}
+use Rattle.plan_task_laws.specs.Trees.{stages_in, sources_in}
 use Rattle.state_laws.specs.Sites.{Site, site, Listing, listed_after, list_node, sites_below}
 
 -- of inputs, one after the other

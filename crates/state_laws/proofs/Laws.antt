@@ -18,10 +18,10 @@ use Rattle.logical_plan.specs.Items.{Item}
 use Rattle.tree_laws.specs.Runs.{State, IsReached}
 use Rattle.content_laws.specs.Whole.{AreFull}
 use Rattle.content_laws.proofs.Flows.{exist}
-use Rattle.plan_tasks.specs.Trees.{Doing}
-use Rattle.plan_tasks.specs.Starts.{start_of}
-use Rattle.plan_tasks.specs.Placed.{deal_of, HasChannels}
-use Rattle.plan_tasks.proofs.Begun.{is_start}
+use Rattle.plan_task_laws.specs.Trees.{Doing}
+use Rattle.plan_task_laws.specs.Starts.{start_of}
+use Rattle.plan_task_laws.specs.Placed.{deal_of, HasChannels}
+use Rattle.plan_task_laws.proofs.Begun.{is_start}
 use Rattle.answer_laws.specs.Meant.{Phases}
 use Rattle.answer_laws.specs.Distincts.{has_distincts}
 use Rattle.finished_laws.specs.Known.{is_known}

@@ -25,14 +25,14 @@ use Rattle.tree_laws.specs.Tasks.{Task}
 use Rattle.tree_laws.specs.Runs.{State, IsReached}
 use Rattle.content_laws.specs.Whole.{past_in, tree_in, AreFull}
 use Rattle.content_laws.proofs.Flows.{flows}
-use Rattle.plan_tasks.specs.Trees.{Doing, Growing, Seed, leaf, passing, partitions_of}
-use Rattle.plan_tasks.proofs.Laws.{grown}
-use Rattle.plan_tasks.specs.Tops.{Top, Written, top, tops, all_tops}
-use Rattle.plan_tasks.specs.Starts.{seeds_of, start_of}
-use Rattle.plan_tasks.specs.Placed.{tasks_before, consumers_before, deal_of, HasChannels}
-use Rattle.plan_tasks.proofs.Begun.{is_start}
-use Rattle.plan_tasks.proofs.Placed.{placed}
-use Rattle.plan_tasks.proofs.Senders.{are_senders}
+use Rattle.plan_task_laws.specs.Trees.{Doing, Growing, Seed, leaf, passing, partitions_of}
+use Rattle.plan_task_laws.proofs.Laws.{grown}
+use Rattle.plan_task_laws.specs.Tops.{Top, Written, top, tops, all_tops}
+use Rattle.plan_task_laws.specs.Starts.{seeds_of, start_of}
+use Rattle.plan_task_laws.specs.Placed.{tasks_before, consumers_before, deal_of, HasChannels}
+use Rattle.plan_task_laws.proofs.Begun.{is_start}
+use Rattle.plan_task_laws.proofs.Placed.{placed}
+use Rattle.plan_task_laws.proofs.Senders.{are_senders}
 use Rattle.answer_laws.specs.Gives.{AllGive, Yields, AllYield}
 use Rattle.answer_laws.specs.Meant.{Phases}
 use Rattle.answer_laws.proofs.Splits.{passed}

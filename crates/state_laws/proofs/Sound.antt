@@ -8,7 +8,7 @@ use Rattle.physical_plan.specs.declared.plan.Plan.TheFolds.{map-Plan}
 use Rattle.physical_plan.specs.Everywhere.{Test, everywhere, node_holds, all_true}
 use Rattle.logical_plan.specs.Items.{rows}
 use Rattle.logical_plan.specs.Body.{Tables}
-use Rattle.plan_tasks.specs.Trees.{stages_in, sources_in}
+use Rattle.plan_task_laws.specs.Trees.{stages_in, sources_in}
 use Rattle.answer_laws.specs.Meant.{meaning_of, meant, is_whole, finishes, all_told, told_node, is_told}
 use Rattle.answer_laws.proofs.Meaning.{both_true}
 use Rattle.finished_laws.specs.Sound.{anyhow, is_met, is_sound}

@@ -9,10 +9,10 @@ use Rattle.tree_laws.specs.Operators.{Told, Op}
 use Rattle.tree_laws.specs.Trees.{Desk, Tree, Nothing, Files, Inlet, Node, IsSubtree, Form, NoForm, NodeForm, form}
 use Rattle.tree_laws.specs.Runs.{State}
 use Rattle.content_laws.specs.Whole.{tree_in}
-use Rattle.plan_tasks.specs.Trees.{Doing, Seed, Growing, node, grow, grown_after, partitions_of, leaf, passing, holding, pairing, paired, stages_in, sources_in}
-use Rattle.plan_tasks.specs.Tops.{Top, Topping, top_node, tops, tops_after}
-use Rattle.plan_tasks.specs.Starts.{seeds_of}
-use Rattle.plan_tasks.proofs.Laws.{grown, topped}
+use Rattle.plan_task_laws.specs.Trees.{Doing, Seed, Growing, node, grow, grown_after, partitions_of, leaf, passing, holding, pairing, paired, stages_in, sources_in}
+use Rattle.plan_task_laws.specs.Tops.{Top, Topping, top_node, tops, tops_after}
+use Rattle.plan_task_laws.specs.Starts.{seeds_of}
+use Rattle.plan_task_laws.proofs.Laws.{grown, topped}
 use Rattle.state_laws.specs.Good.{IsTreeOf, AreTreesOf}
 use Rattle.state_laws.proofs.Inherited.{AllFrom, Below}
 

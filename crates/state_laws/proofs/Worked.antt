@@ -6,8 +6,8 @@ use Rattle.physical_plan.specs.declared.plan.Plan.{Plan}
 use Rattle.physical_plan.specs.declared.plan.Plan.TheOpen.{Plan-F}
 use Rattle.physical_plan.specs.declared.plan.Plan.TheViews.{roll-Plan}
 use Rattle.tree_laws.specs.Trees.{Inlet}
-use Rattle.plan_tasks.proofs.Laws.{stages_rolled, sources_rolled}
-use Rattle.plan_tasks.specs.Trees.{stages_in, sources_in}
+use Rattle.plan_task_laws.proofs.Laws.{stages_rolled, sources_rolled}
+use Rattle.plan_task_laws.specs.Trees.{stages_in, sources_in}
 use Rattle.state_laws.specs.Sites.{site, sites_below}
 use Rattle.state_laws.specs.Good.{so_far}
 use Rattle.state_laws.proofs.Inherited.{listed_rolled}

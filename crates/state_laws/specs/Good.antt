@@ -18,8 +18,8 @@ use Rattle.tree_laws.specs.Trees.{Tree, Inlet, Ends, IsSubtree, poll, form, gave
 use Rattle.tree_laws.specs.Runs.{State}
 use Rattle.content_laws.specs.SenderKinds.{is_at}
 use Rattle.content_laws.specs.Whole.{past_in, tree_in}
-use Rattle.plan_tasks.specs.Trees.{Doing, Seed, partitions_of}
-use Rattle.plan_tasks.specs.Tops.{ByHash, Top, all_tops}
+use Rattle.plan_task_laws.specs.Trees.{Doing, Seed, partitions_of}
+use Rattle.plan_task_laws.specs.Tops.{ByHash, Top, all_tops}
 use Rattle.answer_laws.specs.Meant.{Phases, Tells, meaning_of, is_told}
 use Rattle.finished_laws.specs.Sound.{anyhow}
 use Rattle.state_laws.specs.Sites.{Site, sites_of}

@@ -3,7 +3,7 @@ use Rattle.std.specs.Prelude.{ℕ, ◌+◌, List, [], ◌∷◌, ◌++◌}
 use Rattle.physical_plan.specs.declared.plan.Plan.{Plan}
 use Rattle.physical_plan.specs.declared.plan.Plan.TheOpen.{Plan-F}
 use Rattle.physical_plan.specs.declared.plan.Plan.TheFolds.{para-Plan}
-use Rattle.plan_tasks.specs.Trees.{stages_in, sources_in}
+use Rattle.plan_task_laws.specs.Trees.{stages_in, sources_in}
 
 -- a node, as the plan of which it is the root; the number of the next stage that opens below it, and that of its
 -- first source

@@ -16,9 +16,9 @@ use Rattle.physical_plan.specs.Numbers.{numbers}
 use Rattle.plan_shape.specs.Counts.{counts_of}
 use Rattle.tree_laws.specs.Operators.{Op}
 use Rattle.tree_laws.specs.Trees.{File, Tree, Nothing}
-use Rattle.plan_tasks.specs.Trees.{Doing, Seed, reserving, node, scan, scanning, passing, dealt_files}
-use Rattle.plan_tasks.specs.Branches.{seed_at, union_at, branch, IsEven}
-use Rattle.plan_tasks.proofs.Widths.{branches}
+use Rattle.plan_task_laws.specs.Trees.{Doing, Seed, reserving, node, scan, scanning, passing, dealt_files}
+use Rattle.plan_task_laws.specs.Branches.{seed_at, union_at, branch, IsEven}
+use Rattle.plan_task_laws.proofs.Widths.{branches}
 use Rattle.task_plans.specs.declared.station.ScanFile.{ScanFile}
 use Rattle.task_plans.specs.declared.station.Node.TheVariants.{Filter, Project}
 use Rattle.task_plans.specs.declared.station.OperatorPlan.{OperatorPlan}

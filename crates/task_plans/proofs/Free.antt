@@ -11,10 +11,10 @@ use Rattle.physical_plan.specs.Everywhere.{all_true}
 use Rattle.physical_plan.specs.Numbers.{numbers}
 use Rattle.physical_plan.proofs.Everywhere.{and_parts}
 use Rattle.tree_laws.specs.Operators.{Op}
-use Rattle.plan_tasks.specs.Trees.{Doing, Seed, leaf, inlet, scanning, passing, dealt_files, partitions_of, stages_in, sources_in}
-use Rattle.plan_tasks.specs.Starts.{consumers_in}
-use Rattle.plan_tasks.proofs.Branches.{rolled, ends}
-use Rattle.plan_tasks.proofs.Laws.{grown}
+use Rattle.plan_task_laws.specs.Trees.{Doing, Seed, leaf, inlet, scanning, passing, dealt_files, partitions_of, stages_in, sources_in}
+use Rattle.plan_task_laws.specs.Starts.{consumers_in}
+use Rattle.plan_task_laws.proofs.Branches.{rolled, ends}
+use Rattle.plan_task_laws.proofs.Laws.{grown}
 use Rattle.task_plans.specs.Built.{is_built}
 use Rattle.task_plans.proofs.Nodes.{built-Filter, built-Project, built-PartialGroup, built-FinalGroup, built-HashJoin, built-Sort, built-Merge, built-UnionAll, built-Limit}
 

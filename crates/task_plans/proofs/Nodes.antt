@@ -14,7 +14,7 @@ use Rattle.physical_plan.specs.declared.plan.Plan.TheFolds.{fold-roll-Plan, para
 use Rattle.physical_plan.specs.declared.plan.Plan.TheVariants.{Scan, Filter, Project, PartialGroup, FinalGroup, HashJoin, Sort, Merge, Coalesce, Repartition, UnionAll, Limit, rolls-Scan, rolls-Filter, rolls-Project, rolls-PartialGroup, rolls-FinalGroup, rolls-HashJoin, rolls-Sort, rolls-Merge, rolls-Coalesce, rolls-Repartition, rolls-UnionAll, rolls-Limit}
 use Rattle.physical_plan.specs.Everywhere.{everywhere, node_holds, all_true}
 use Rattle.plan_shape.proofs.Nodes.{counts-Scan, counts-Filter, counts-Project, counts-PartialGroup, counts-FinalGroup, counts-HashJoin, counts-Sort, counts-Merge, counts-Coalesce, counts-Repartition, counts-UnionAll, counts-Limit}
-use Rattle.plan_tasks.specs.Trees.{count_stages, stages_in, count_sources, sources_in, sum_all}
+use Rattle.plan_task_laws.specs.Trees.{count_stages, stages_in, count_sources, sources_in, sum_all}
 use Rattle.plan_kinds.specs.Kinds.{kinds, inputs_have_kinds}
 use Rattle.task_plans.specs.Built.{is_in_turn, built_node, is_built}
 

@@ -15,9 +15,9 @@ use Rattle.physical_plan.specs.Everywhere.{everywhere, all_true}
 use Rattle.plan_kinds.specs.Kinds.{kinds, inputs_have_kinds}
 use Rattle.plan_shape.specs.Counts.{in_all, counts_of}
 use Rattle.plan_shape.proofs.Nodes.{counts-Scan, counts-Filter, counts-Project, counts-UnionAll}
-use Rattle.plan_tasks.specs.Trees.{Doing, Seed, stages_in, sources_in}
-use Rattle.plan_tasks.specs.Branches.{seed_at, union_at, width_at}
-use Rattle.plan_tasks.proofs.Widths.{width_counts}
+use Rattle.plan_task_laws.specs.Trees.{Doing, Seed, stages_in, sources_in}
+use Rattle.plan_task_laws.specs.Branches.{seed_at, union_at, width_at}
+use Rattle.plan_task_laws.proofs.Widths.{width_counts}
 use Rattle.task_plans.specs.declared.refused.PlanRefused.{PlanRefused}
 use Rattle.task_plans.specs.declared.refused.PlanRefused.TheVariants as refused
 use Rattle.task_plans.specs.declared.station.ScanFile.{ScanFile}

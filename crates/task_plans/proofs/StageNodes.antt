@@ -10,9 +10,9 @@ use Rattle.physical_plan.specs.Everywhere.{everywhere, all_true}
 use Rattle.physical_plan.proofs.Everywhere.{and_parts}
 use Rattle.plan_kinds.specs.Kinds.{kinds, inputs_have_kinds}
 use Rattle.tree_laws.specs.Tasks.{Task}
-use Rattle.plan_tasks.specs.Trees.{Doing, partitions_of}
-use Rattle.plan_tasks.specs.Tops as tops
-use Rattle.plan_tasks.specs.Starts.{split_by, tasks_by, tasks_in}
+use Rattle.plan_task_laws.specs.Trees.{Doing, partitions_of}
+use Rattle.plan_task_laws.specs.Tops as tops
+use Rattle.plan_task_laws.specs.Starts.{split_by, tasks_by, tasks_in}
 use Rattle.task_plans.specs.declared.refused.PlanRefused.{PlanRefused}
 use Rattle.task_plans.specs.declared.refused.PlanRefused.TheVariants as refused
 use Rattle.task_plans.specs.declared.station.TaskPlan.{TaskPlan}

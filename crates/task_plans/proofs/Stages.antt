@@ -19,13 +19,13 @@ use Rattle.physical_plan.proofs.Everywhere.{and_parts}
 use Rattle.plan_shape.specs.Counts.{counts_of}
 use Rattle.tree_laws.specs.Trees.{Nothing}
 use Rattle.tree_laws.specs.Tasks.{Split, Task}
-use Rattle.plan_tasks.specs.Trees.{Doing, Seed, leaf, partitions_of, stages_in, sources_in}
-use Rattle.plan_tasks.specs.Tops as tops
-use Rattle.plan_tasks.specs.Tops.{Top, Topping, top_node, tops_after, way_to, InTurn}
-use Rattle.plan_tasks.specs.Starts.{split_by, starting, tasks_by, consumers_in, seeds_of, tasks_in, tasks_of}
-use Rattle.plan_tasks.specs.Branches.{seed_at, width_at}
-use Rattle.plan_tasks.proofs.Laws.{topped}
-use Rattle.plan_tasks.proofs.Widths.{width_counts}
+use Rattle.plan_task_laws.specs.Trees.{Doing, Seed, leaf, partitions_of, stages_in, sources_in}
+use Rattle.plan_task_laws.specs.Tops as tops
+use Rattle.plan_task_laws.specs.Tops.{Top, Topping, top_node, tops_after, way_to, InTurn}
+use Rattle.plan_task_laws.specs.Starts.{split_by, starting, tasks_by, consumers_in, seeds_of, tasks_in, tasks_of}
+use Rattle.plan_task_laws.specs.Branches.{seed_at, width_at}
+use Rattle.plan_task_laws.proofs.Laws.{topped}
+use Rattle.plan_task_laws.proofs.Widths.{width_counts}
 use Rattle.task_plans.specs.declared.station.StationPlan.{StationPlan}
 use Rattle.task_plans.specs.declared.station.Sending.{Sending}
 use Rattle.task_plans.specs.declared.station.TaskPlan.{TaskPlan}

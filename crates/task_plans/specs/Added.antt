@@ -2,9 +2,9 @@
 use Rattle.std.specs.Prelude.{ℕ, ◌+◌, ◌≡◌, List, [], ◌∷◌, ◌++◌, reverse, Some, None}
 use Rattle.tree_laws.specs.Tasks.{Task}
 use Rattle.physical_plan.specs.declared.plan.Plan.{Plan}
-use Rattle.plan_tasks.specs.Trees.{Doing, Seed, stages_in, sources_in}
+use Rattle.plan_task_laws.specs.Trees.{Doing, Seed, stages_in, sources_in}
 use Rattle.plan_kinds.specs.Kinds.{kinds}
-use Rattle.plan_tasks.specs.Tops as tops
+use Rattle.plan_task_laws.specs.Tops as tops
 use Rattle.task_plans.specs.declared.station.Node.{Node}
 use Rattle.task_plans.specs.declared.station.OperatorPlan.{OperatorPlan}
 use Rattle.task_plans.specs.declared.station.StationPlan.{StationPlan}

@@ -6,7 +6,7 @@ use Rattle.physical_plan.specs.declared.plan.Plan.TheOpen.{Plan-F}
 use Rattle.plan_kinds.specs.Kinds.{kinds}
 use Rattle.tree_laws.specs.Operators.{Told, Op}
 use Rattle.tree_laws.specs.Trees.{Desk, File, Tree, Nothing, Files, Inlet, Node}
-use Rattle.plan_tasks.specs.Trees.{Doing, reserving, untold, idle, inlet, scan}
+use Rattle.plan_task_laws.specs.Trees.{Doing, reserving, untold, idle, inlet, scan}
 use Rattle.task_plans.specs.declared.station.ScanFile.{ScanFile}
 use Rattle.task_plans.specs.declared.station.Node.{Node as Node_}
 use Rattle.task_plans.specs.declared.station.Node.TheVariants.{Filter, Project}

@@ -3,8 +3,8 @@ use Rattle.std.specs.Prelude.{◌≡◌, Option, Some, None, List, [], ◌∷◌
 use Rattle.content_laws.specs.SenderKinds.{whole_split, hash_split}
 use Rattle.tree_laws.specs.Trees.{Tree}
 use Rattle.tree_laws.specs.Tasks.{Split, Task}
-use Rattle.plan_tasks.specs.Trees.{Doing}
-use Rattle.plan_tasks.specs.Starts.{in_turn, starting}
+use Rattle.plan_task_laws.specs.Trees.{Doing}
+use Rattle.plan_task_laws.specs.Starts.{in_turn, starting}
 use Rattle.task_plans.specs.declared.station.Sending.{Sending}
 use Rattle.task_plans.specs.declared.station.Sending.TheVariants.{Written, ByHash, InTurn, One}
 use Rattle.task_plans.specs.declared.station.TaskPlan.{TaskPlan}

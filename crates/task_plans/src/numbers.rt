@@ -2,7 +2,7 @@
 
 ghost use Rattle.std.specs.Prelude.{◌≡◌, ◌+◌, map, IfOk};
 ghost use Rattle.plan_shape.specs.Counts as counts;
-ghost use Rattle.plan_tasks.specs.Trees as trees;
+ghost use Rattle.plan_task_laws.specs.Trees as trees;
 
 use dfx_value::NoMemory;
 use physical_plan::Plan;

@@ -2,8 +2,8 @@
 
 ghost use Rattle.std.specs.Prelude.{◌≡◌, ◌∷◌, [], ◌++◌, ◌<◌, map, IfErr, OnOk};
 ghost use Rattle.plan_shape.specs.Counts as counts;
-ghost use Rattle.plan_tasks.specs.Trees.{Doing};
-ghost use Rattle.plan_tasks.specs.Branches.{seed_at, union_at};
+ghost use Rattle.plan_task_laws.specs.Trees.{Doing};
+ghost use Rattle.plan_task_laws.specs.Branches.{seed_at, union_at};
 ghost use Rattle.task_plans.specs.Refusals as spec;
 ghost use Rattle.task_plans.specs.Added.{AddsFor, AddsOperator};
 ghost use Rattle.task_plans.specs.declared.station.StationPlan.TheVariants as station;

@@ -2,9 +2,9 @@
 
 ghost use Rattle.std.specs.Prelude.{◌≡◌, ◌+◌, map, reverse, true, IfOk, IfErr, OnOk};
 ghost use Rattle.physical_plan.specs.Everywhere.{all_true};
-ghost use Rattle.plan_tasks.specs.Trees.{Doing, partitions_of};
-ghost use Rattle.plan_tasks.specs.Tops.{tops};
-ghost use Rattle.plan_tasks.specs.Starts.{split_by, tasks_by, tasks_in, tasks_of};
+ghost use Rattle.plan_task_laws.specs.Trees.{Doing, partitions_of};
+ghost use Rattle.plan_task_laws.specs.Tops.{tops};
+ghost use Rattle.plan_task_laws.specs.Starts.{split_by, tasks_by, tasks_in, tasks_of};
 ghost use Rattle.task_plans.specs.Built as spec;
 ghost use Rattle.task_plans.specs.Refusals.{Refuses, RefusesSome};
 ghost use Rattle.task_plans.specs.Tasks.{AreTasks, split_of};

@@ -1,5 +1,5 @@
 use Rattle.std.proofs.Common.{◌≡◌, ◌+◌, map, drop}
-use Rattle.plan_tasks.specs.Trees.{sum_all, stages_in, sources_in}
+use Rattle.plan_task_laws.specs.Trees.{sum_all, stages_in, sources_in}
 use Rattle.task_plans.proofs.numbers.+behind.Given as goal
 
 abbrev pub invariant-behind_all-loop-plan : goal.invariant-behind_all-loop-plan

@@ -1,6 +1,6 @@
 use Rattle.std.proofs.Common.{◌≡◌, subst}
-use Rattle.plan_tasks.specs.Trees.{Doing}
-use Rattle.plan_tasks.specs.Branches.{union_at}
+use Rattle.plan_task_laws.specs.Trees.{Doing}
+use Rattle.plan_task_laws.specs.Branches.{union_at}
 use Rattle.task_plans.specs.declared.refused.PlanRefused.{PlanRefused}
 use Rattle.task_plans.specs.Refusals.{Refuses}
 use Rattle.task_plans.proofs.Pushes.{err_kept, below_filter, below_project, filter_refused, project_refused, union_refused, inlet_refused, input_refused, scanned, gathered, split, filtered, projected, united, in_input, found_step, within_step, at_end}

@@ -1,7 +1,7 @@
 use Rattle.std.proofs.Common.{◌≡◌, ◌<◌, true, map, drop}
 use Rattle.plan_shape.specs.Counts.{in_all, counts_of}
-use Rattle.plan_tasks.specs.Trees.{Doing}
-use Rattle.plan_tasks.specs.Branches.{union_at}
+use Rattle.plan_task_laws.specs.Trees.{Doing}
+use Rattle.plan_task_laws.specs.Branches.{union_at}
 use Rattle.task_plans.proofs.partition.+stations.Given as goal
 
 abbrev pub invariant-push_in_union-loop-input : goal.invariant-push_in_union-loop-input

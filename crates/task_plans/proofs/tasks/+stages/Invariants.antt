@@ -1,7 +1,7 @@
 use Rattle.std.proofs.Common.{◌≡◌, true, map, drop}
 use Rattle.physical_plan.specs.Everywhere.{all_true}
-use Rattle.plan_tasks.specs.Trees.{Doing}
-use Rattle.plan_tasks.specs.Starts.{tasks_in}
+use Rattle.plan_task_laws.specs.Trees.{Doing}
+use Rattle.plan_task_laws.specs.Starts.{tasks_in}
 use Rattle.task_plans.specs.Built.{is_built}
 use Rattle.task_plans.specs.Added.{tops_over}
 use Rattle.task_plans.proofs.Stages.{AddsSoFar}

@@ -1,7 +1,7 @@
 use Rattle.std.proofs.Common.{ℕ, ◌<◌, ◌≡◌, [], List, subst, arith}
 use Rattle.plan_shape.specs.Counts.{counts_of}
-use Rattle.plan_tasks.specs.Branches.{seed_at}
-use Rattle.plan_tasks.specs.Starts.{split_by}
+use Rattle.plan_task_laws.specs.Branches.{seed_at}
+use Rattle.plan_task_laws.specs.Starts.{split_by}
 use Rattle.task_plans.specs.declared.station.StationPlan.{StationPlan}
 use Rattle.task_plans.specs.Added.{AddsFor, way_of}
 use Rattle.task_plans.proofs.Pushes.{ok_is}

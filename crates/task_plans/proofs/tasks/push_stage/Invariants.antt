@@ -1,6 +1,6 @@
 use Rattle.std.proofs.Common.{◌≡◌, true, take}
-use Rattle.plan_tasks.specs.Trees.{Doing, partitions_of}
-use Rattle.plan_tasks.specs.Starts.{split_by, tasks_by}
+use Rattle.plan_task_laws.specs.Trees.{Doing, partitions_of}
+use Rattle.plan_task_laws.specs.Starts.{split_by, tasks_by}
 use Rattle.task_plans.specs.Built.{is_built}
 use Rattle.task_plans.specs.Added.{AddsTasks, way_of}
 use Rattle.task_plans.proofs.tasks.push_stage.Given as goal
