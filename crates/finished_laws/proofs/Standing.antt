@@ -23,7 +23,7 @@ use Rattle.physical_plan.specs.declared.plan.Plan.TheViews.{roll-Plan}
 use Rattle.physical_plan.specs.declared.plan.Plan.TheFolds.{fold-roll-Plan, map-Plan}
 use Rattle.physical_plan.specs.declared.properties.Declared.{Declared}
 use Rattle.physical_plan.specs.Numbers.{numbers}
-use Rattle.node_laws.specs.NodeRows.{Holds, Dealt, by_row, kept, values, united_parts}
+use Rattle.node_laws.specs.NodeRows.{Holds, Dealt, by_row, kept, values}
 use Rattle.physical_plan.specs.Properties.{repartitioned, state_width, first_width, counts, scattered, partitions, declared, declared_of, or_single, props, left_keys, right_keys}
 use Rattle.physical_plan.specs.Everywhere.{node_holds, all_true, everywhere}
 use Rattle.physical_plan.specs.Needs.{group_need}
@@ -342,7 +342,7 @@ module _ (f : Doing) (tables : Tables) (n : ℕ) (h : Hashing) (channels : IsCha
   map_apart [] y = refl
   map_apart (a ∷ x) y = ap (λ rs. rows a ∷ rs) (map_apart x y)
 
-  zipped_rows : (ps : List Plan) (xs : List (List (List Item))) → AllHold Holds-of ps xs → map rows (concat xs) ≡ united_parts (rows_of (zipped ps xs))
+  zipped_rows : (ps : List Plan) (xs : List (List (List Item))) → AllHold Holds-of ps xs → map rows (concat xs) ≡ concat (rows_of (zipped ps xs))
   zipped_rows [] [] k = refl
   zipped_rows [] (x ∷ xs) k = absurd k
   zipped_rows (p ∷ ps) [] k = absurd k

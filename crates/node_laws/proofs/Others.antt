@@ -8,6 +8,7 @@ use Rattle.dfx_value.specs.declared.value.Value.{Value}
 use Rattle.dfx_value.specs.declared.rows.SortKey.{SortKey}
 use Rattle.dfx_value.specs.Rows.{cell}
 use Rattle.dfx_value.specs.declared.op.JoinKind.TheVariants.{Inner, Left}
+use Rattle.dfx_value.specs.Items.{concat}
 use Rattle.plan_props.specs.declared.properties.Partitioning.{Partitioning}
 use Rattle.plan_props.specs.declared.properties.Partitioning.TheVariants as parting
 use Rattle.plan_props.specs.Satisfies.{partition_count}
@@ -16,7 +17,7 @@ use Rattle.scalar_exprs.specs.Truth.{is_null}
 use Rattle.plan_props.proofs.Sound.{each_map, each_all}
 use Rattle.physical_plan.specs.declared.properties.Declared.{Declared}
 use Rattle.physical_plan.specs.Properties.{sorted, kept_order, repartitioned, or_single, declared_partitions, united, hash_joined, left_keys, shifted, joined_pairs}
-use Rattle.node_laws.specs.NodeRows.{Holds, HoldsIn, Arranged, IsSubsequence, Dealt, Exchanged, Matches, nulls, InnerRow, LeftRow, Joined, united_parts}
+use Rattle.node_laws.specs.NodeRows.{Holds, HoldsIn, Arranged, IsSubsequence, Dealt, Exchanged, Matches, nulls, InnerRow, LeftRow, Joined}
 use Rattle.node_laws.specs.Joins.{AllMeet, Within, PairsWithin, Sides}
 use Rattle.node_laws.proofs.Meetings.{agree-append, pairs-append}
 use Rattle.node_laws.proofs.Weavings.{each_has}
@@ -92,23 +93,23 @@ repartition_meets h cs n d ins outs a m = record {
 
 -- ---- UnionAll
 
-union_count : (h : Hashing) (ds : List Declared) (ps : List (List (List Row))) → AllMeet h ds ps → length (united_parts ps) ≡ sum (map (λ (d : Declared). declared_partitions d) ds)
+union_count : (h : Hashing) (ds : List Declared) (ps : List (List (List Row))) → AllMeet h ds ps → length (concat ps) ≡ sum (map (λ (d : Declared). declared_partitions d) ds)
 union_count h [] [] m = refl
 union_count h (d ∷ ds) (p ∷ ps) m =
-    length-append p (united_parts ps)
-    ∙ ap (λ (n : ℕ). n + length (united_parts ps)) m.0.count
+    length-append p (concat ps)
+    ∙ ap (λ (n : ℕ). n + length (concat ps)) m.0.count
     ∙ ap (λ (n : ℕ). declared_partitions d + n) (union_count h ds ps m.1 ∙ sum_by_from (λ (x : ℕ). x) 0 (map (λ (d : Declared). declared_partitions d) ds) ∙ zero-add _)
     ∙ sym (sum_by_from (λ (x : ℕ). x) (0 + declared_partitions d) (map (λ (d : Declared). declared_partitions d) ds) ∙ ap (λ (n : ℕ). n + sum_by (λ (x : ℕ). x) (map (λ (d : Declared). declared_partitions d) ds)) (zero-add (declared_partitions d)))
 union_count h [] (p ∷ ps) m = absurd m
 union_count h (d ∷ ds) [] m = absurd m
 
-pub union_meets : (h : Hashing) (ds : List Declared) (ps : List (List (List Row))) → AllMeet h ds ps → Meets h (united ds).props (united_parts ps)
+pub union_meets : (h : Hashing) (ds : List Declared) (ps : List (List (List Row))) → AllMeet h ds ps → Meets h (united ds).props (concat ps)
 union_meets h ds ps m = record {
   count = union_count h ds ps m ∙ sym (single_parts (parting.Unknown (sum (map (λ (d : Declared). declared_partitions d) ds))));
-  hashed = λ j. each_all (part (united_parts ps) j) (λ r. single_hashed h (parting.Unknown (sum (map (λ (d : Declared). declared_partitions d) ds))) j r tt);
-  ordered = λ j. unordered (part (united_parts ps) j);
-  same = λ j. no_pairs (part (united_parts ps) j);
-  constant = λ i j. each_all (part (united_parts ps) i) (λ r. each_all (part (united_parts ps) j) (λ s. tt));
+  hashed = λ j. each_all (part (concat ps) j) (λ r. single_hashed h (parting.Unknown (sum (map (λ (d : Declared). declared_partitions d) ds))) j r tt);
+  ordered = λ j. unordered (part (concat ps) j);
+  same = λ j. no_pairs (part (concat ps) j);
+  constant = λ i j. each_all (part (concat ps) i) (λ r. each_all (part (concat ps) j) (λ s. tt));
 }
 
 -- ---- HashJoin

@@ -2,6 +2,7 @@
 use Rattle.std.proofs.Common.{ℕ, true, zero, suc, ◌≡◌, ◌+◌, ◌≤◌, refl, sym, ap, ◌∙◌, subst, Some, List, [], ◌∷◌, map, length, sum, arith}
 use Rattle.dfx_value.specs.declared.op.JoinKind.{JoinKind}
 use Rattle.dfx_value.specs.declared.op.JoinKind.TheVariants.{Inner, Left, Right, Full}
+use Rattle.dfx_value.specs.Items.{concat}
 use Rattle.scalar_exprs.specs.declared.expr.Expr.{Expr}
 use Rattle.plan_props.specs.declared.properties.Partitioning.{Partitioning}
 use Rattle.plan_props.specs.declared.properties.Partitioning.TheVariants as parting
@@ -19,7 +20,7 @@ use Rattle.physical_plan.specs.Facts.{fact_of}
 use Rattle.physical_plan.specs.Everywhere.{kids}
 use Rattle.physical_plan.specs.Needs.{group_need, spread_needs, order_needs}
 use Rattle.node_laws.specs.Joins.{AllMeet, Sides, Within, PairsWithin}
-use Rattle.node_laws.specs.NodeRows.{by_row, kept, values, Holds, HoldsIn, Joined, united_parts}
+use Rattle.node_laws.specs.NodeRows.{by_row, kept, values, Holds, HoldsIn, Joined}
 use Rattle.node_laws.proofs.Filters.{filter_meets, project_meets}
 use Rattle.node_laws.proofs.Others.{sort_meets, repartition_meets, union_meets, left_join_meets, inner_join_meets, single_parts, single_hashed, unordered}
 use Rattle.node_laws.specs.Weaves.{Interleaves}
@@ -53,9 +54,9 @@ inputs_meet : (h : Hashing) (is : List Input) → AllStand h is → AllMeet h (d
 inputs_meet h [] s = tt
 inputs_meet h (i ∷ is) s = (s.0.meets, inputs_meet h is s.1)
 
-inputs_wide : (h : Hashing) (w : ℕ) (is : List Input) → AllStand h is → HaveWidth w is → AllWide w (united_parts (rows_of is))
+inputs_wide : (h : Hashing) (w : ℕ) (is : List Input) → AllStand h is → HaveWidth w is → AllWide w (concat (rows_of is))
 inputs_wide h w [] s e j = tt
-inputs_wide h w (i ∷ is) s e j = wide_append w i.1 (united_parts (rows_of is)) (λ k. subst (λ (v : ℕ). Each (IsWide v) (part i.1 k)) e.0 (s.0.wide k)) (inputs_wide h w is s.1 e.1) j
+inputs_wide h w (i ∷ is) s e j = wide_append w i.1 (concat (rows_of is)) (λ k. subst (λ (v : ℕ). Each (IsWide v) (part i.1 k)) e.0 (s.0.wide k)) (inputs_wide h w is s.1 e.1) j
 
 -- ---- row by row
 

@@ -4,6 +4,7 @@ ghost use Rattle.std.specs.Prelude.{ℕ, ◌≡◌, true, List, [], ◌∷◌, l
 ghost use Rattle.scalar_exprs.specs.declared.expr.Expr.{Expr as AnExpr};
 ghost use Rattle.dfx_value.specs.declared.rows.SortKey.{SortKey as Key};
 ghost use Rattle.dfx_value.specs.declared.op.JoinKind.TheVariants.{Inner as InnerJoin, Left as LeftJoin, Right as RightJoin, Full as FullJoin};
+ghost use Rattle.dfx_value.specs.Items.{concat};
 ghost use Rattle.plan_props.specs.declared.properties.Partitioning.TheVariants.{Hash as ByHash, RoundRobin as ByTurns};
 ghost use Rattle.plan_props.specs.Meets.{Row, Hashing, IsHash, Each, Meets, Delivers, InOrder, AllInOrder};
 ghost use Rattle.physical_plan.specs.declared.plan.Plan.TheOpen.{Plan-F as Node};
@@ -13,7 +14,7 @@ ghost use Rattle.physical_plan.specs.declared.properties.Declared.{Declared as S
 ghost use Rattle.physical_plan.specs.Properties.{filtered, projected, grouped, sorted, merged, repartitioned, united, hash_joined, declared, declared_of};
 ghost use Rattle.physical_plan.specs.Everywhere.{kids};
 ghost use Rattle.physical_plan.specs.Needs.{group_need, spread_needs, order_needs};
-ghost use Rattle.node_laws.specs.NodeRows.{by_row, kept, values, Arranged, Dealt, Exchanged, HoldsIn, Joined, InnerRow, LeftRow, united_parts};
+ghost use Rattle.node_laws.specs.NodeRows.{by_row, kept, values, Arranged, Dealt, Exchanged, HoldsIn, Joined, InnerRow, LeftRow};
 ghost use Rattle.node_laws.specs.Joins.{AllMeet, Sides};
 ghost use Rattle.node_laws.specs.Weaves.{Merges};
 ghost use Rattle.node_laws.specs.Nodes.{Stands, Input, PlanInput, AllStand, NodeNeeds, NodeGives, InRange, plans_of, inputs_of};
@@ -35,7 +36,7 @@ pub fn node_laws()
         → Exchanged h cs n ins outs → Meets h d.props ins
         → Meets h (repartitioned (ByHash cs n) d).props outs }
     ensures union { (h : Hashing) (ds : List Said) (ps : List (List (List Row)))
-        → AllMeet h ds ps → Meets h (united ds).props (united_parts ps) }
+        → AllMeet h ds ps → Meets h (united ds).props (concat ps) }
     ensures left { (h : Hashing) (keys : List (ℕ × ℕ)) (d e : Said)
         (lefts rights outs : List (List Row))
         → Sides h keys d lefts → Meets h d.props lefts
