@@ -1,5 +1,6 @@
 -- Meaning: the aggregate calls of expressions, in the order in which they are met, equal ones once.
 use Rattle.std.specs.Prelude.{ℕ, Bool, true, false, Option, Some, None, List, [], ◌∷◌, ◌++◌, map, if◌then◌else◌}
+use Rattle.dfx_value.specs.Items.{concat}
 use Rattle.sql_grammar.specs.declared.ast.FnAst.{FnAst}
 use Rattle.sql_grammar.specs.declared.ast.FnAst.TheVariants as fn
 use Rattle.sql_grammar.specs.declared.ast.ExprAst.{ExprAst, roll-ExprAst}
@@ -11,10 +12,6 @@ use Rattle.typed_exprs.specs.Scopes.{Columns}
 
 abbrev pub Calls : Type 0
 Calls = List ExprAst
-
-abbrev pub concat : List Calls → Calls
-concat [] = []
-concat (cs ∷ more) = cs ++ concat more
 
 abbrev pub is_aggregate : FnAst → Bool
 is_aggregate fn.Coalesce = false

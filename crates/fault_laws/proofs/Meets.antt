@@ -13,7 +13,8 @@ use Rattle.dfx_value.specs.declared.kind.Kind.{Kind}
 use Rattle.dfx_value.specs.declared.op.AggCall.{AggCall}
 use Rattle.dfx_value.specs.declared.op.JoinKind.{JoinKind}
 use Rattle.dfx_value.specs.declared.rows.SortKey.{SortKey}
-use Rattle.scalar_exprs.specs.Groups.{key_list, firsts}
+use Rattle.dfx_value.specs.Rows.{cells_at}
+use Rattle.scalar_exprs.specs.Groups.{firsts}
 use Rattle.scalar_exprs.specs.declared.expr.Expr.{Expr}
 use Rattle.physical_plan.specs.declared.plan.Plan.{Plan}
 use Rattle.physical_plan.specs.declared.plan.Plan.TheOpen.{Plan-F}
@@ -109,7 +110,7 @@ regrouped test [] calls kinds items fs e h k =
 regrouped test (column ∷ columns) calls kinds items fs e h k =
     let cs = column ∷ columns in
     let input = of_faults fs ++ of_rows (rows items) in
-    let answers : List Cells → List Item = λ rs. map (λ r. group_item (key_list cs r) calls kinds (group_of cs rs r)) (firsts (alike cs) rs) in
+    let answers : List Cells → List Item = λ rs. map (λ r. group_item (cells_at cs r) calls kinds (group_of cs rs r)) (firsts (alike cs) rs) in
     let w = bad test in
     let a1 = bads test (of_faults (faults items) ++ answers (rows items)) in
     let a2 = sum_by-append w (of_faults (faults items)) (answers (rows items)) in

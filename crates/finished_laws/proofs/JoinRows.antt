@@ -1,15 +1,12 @@
 -- Each row of a join is a pair of rows that match, or a row of a kept side with NULLs.
 use Rattle.std.specs.List.{flat_map}
 use Rattle.std.proofs.Common.{ℕ, ◌≡◌, inl, inr, refl, sym, subst, List, [], ◌∷◌, ◌++◌, Bool, true, false, ◌&&◌, not, Option, Some, None, Ok, Err, cond}
-use Rattle.std.proofs.lemmas.Bool.{false≢true}
+use Rattle.std.proofs.lemmas.Bool.{not-true}
 use Rattle.dfx_value.specs.declared.fault.ItemFault.{ItemFault}
 use Rattle.dfx_value.specs.declared.op.JoinKind.{JoinKind}
 use Rattle.dfx_value.specs.declared.op.JoinKind.TheVariants.{Inner, Left, Right, Full}
-use Rattle.dfx_value.specs.declared.value.Value.{Value}
-use Rattle.dfx_value.specs.declared.value.Value.TheVariants as value
 use Rattle.dfx_value.specs.Order.{value_cmp}
 use Rattle.dfx_value.specs.Rows.{cell}
-use Rattle.plan_props.specs.Meets as meets
 use Rattle.node_laws.specs.NodeRows.{Holds, InnerRow, Matches}
 use Rattle.node_laws.specs.Nodes.{JoinRow}
 use Rattle.scalar_exprs.specs.declared.expr.Expr.{Expr}
@@ -35,20 +32,13 @@ in_flat F (l ∷ ls) s i = elim (apart (F l) (flat_map F ls) s i) [
 
 -- ------------------------------------------------------------ pairs
 
-same_null : (v : Value) → not (is_null v) ≡ true → meets.is_null v ≡ false
-same_null value.Null e = absurd (false≢true e)
-same_null (value.Bool b) e = refl
-same_null (value.Int k) e = refl
-same_null (value.Dec d) e = refl
-same_null (value.Text t) e = refl
-
 matched : (keys : List (ℕ × ℕ)) (l r : Cells) → keys_match keys l r ≡ true → Matches keys l r
 matched [] l r h = tt
 matched (k ∷ ks) l r h =
     let b = both_true (cells_match (cell l k.0) (cell r k.1)) (keys_match ks l r) h in
     let c = both_true (not (is_null (cell l k.0)) && not (is_null (cell r k.1))) (same_value (cell l k.0) (cell r k.1)) b.0 in
     let d = both_true (not (is_null (cell l k.0))) (not (is_null (cell r k.1))) c.0 in
-    (equal_value (value_cmp (cell l k.0) (cell r k.1)) c.1, same_null (cell l k.0) d.0, matched ks l r b.1)
+    (equal_value (value_cmp (cell l k.0) (cell r k.1)) c.1, not-true (is_null (cell l k.0)) d.0, matched ks l r b.1)
 
 tested_row : (row : Cells) (o : Outcome) (s : Cells) → Holds (rows (tested row o)) s → row ≡ s
 tested_row row (Ok v) s i = by (is_true v) i

@@ -17,7 +17,7 @@ use Rattle.scalar_exprs.specs.Groups.{same_value}
 use Rattle.scalar_exprs.specs.Truth.{is_null}
 use Rattle.logical_plan.specs.Items.{Cells, Item, rows}
 use Rattle.logical_plan.specs.Joins.{cells_match, keys_match, nulls}
-use Rattle.plan_props.specs.Meets.{Row, Each, part, is_null as is_none}
+use Rattle.plan_props.specs.Meets.{Row, Each, part}
 use Rattle.node_laws.specs.NodeRows.{Holds, Matches, InnerRow, Joined}
 use Rattle.node_laws.specs.Nodes.{JoinRow}
 use Rattle.content_laws.specs.Bags.{row_parts}
@@ -63,20 +63,13 @@ rows_fit kind left right keys rest ls rs h k =
 
 -- ---- rows of the node
 
-not_null : (v : Value) → is_null v ≡ false → is_none v ≡ false
-not_null value.Null e = e
-not_null (value.Bool b) e = refl
-not_null (value.Int n) e = refl
-not_null (value.Dec d) e = refl
-not_null (value.Text t) e = refl
-
 pub match_holds : (keys : List (ℕ × ℕ)) (l r : Cells) → keys_match keys l r ≡ true → Matches keys l r
 match_holds [] l r e = tt
 match_holds (key ∷ keys) l r e =
     let p = and_parts (cells_match (cell l key.0) (cell r key.1)) (keys_match keys l r) e in
     let q = and_parts (not (is_null (cell l key.0)) && not (is_null (cell r key.1))) (same_value (cell l key.0) (cell r key.1)) p.0 in
     let n = and_parts (not (is_null (cell l key.0))) (not (is_null (cell r key.1))) q.0 in
-    ((Equal-is _).0 q.1, not_null (cell l key.0) (not-true (is_null (cell l key.0)) n.0), match_holds keys l r p.1)
+    ((Equal-is _).0 q.1, not-true (is_null (cell l key.0)) n.0, match_holds keys l r p.1)
 
 module _ (keys : List (ℕ × ℕ)) (left_width right_width : ℕ) (rest : Option Expr) (ls rs : List Item) where
   inner : (l r : Cells) → Holds (rows ls) l → Holds (rows rs) r → keys_match keys l r ≡ true → InnerRow keys (rows ls) (rows rs) (l ++ r)

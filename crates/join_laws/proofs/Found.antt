@@ -4,11 +4,11 @@ use Rattle.std.specs.List.{flat_map, list_any, All}
 use Rattle.std.proofs.lemmas.List.Elements.{All-nil, All-cons}
 use Rattle.std.proofs.lemmas.List.{append-nil, append_assoc, get_or_at, length_push}
 use Rattle.dfx_value.specs.Order.{value_cmp}
-use Rattle.dfx_value.specs.Rows.{cell}
+use Rattle.dfx_value.specs.Rows.{cell, cells_at}
 use Rattle.dfx_value.specs.declared.value.Value.{Value}
 use Rattle.dfx_value.specs.declared.value.Value.TheVariants as value
 use Rattle.scalar_exprs.specs.declared.expr.Expr.{Expr}
-use Rattle.scalar_exprs.specs.Groups.{key_list, same_keys, same_value}
+use Rattle.scalar_exprs.specs.Groups.{same_keys, same_value}
 use Rattle.scalar_exprs.specs.Truth.{is_null}
 use Rattle.logical_plan.specs.Items.{Cells}
 use Rattle.logical_plan.specs.Joins.{cells_match, keys_match, residual, right_pairs}
@@ -20,25 +20,25 @@ use Rattle.join_laws.specs.Tables.{KeyPlaces, enter, entered, matches, places_of
 -- ---- all places of a key
 
 abbrev pub goes_in : List ℕ → Cells → Cells → Bool
-goes_in columns k l = not (list_any is_null (key_list columns l)) && same_keys (key_list columns l) k
+goes_in columns k l = not (list_any is_null (cells_at columns l)) && same_keys (cells_at columns l) k
 
 found_from : (columns : List ℕ) (k : Cells) (t : KeyPlaces) (at : ℕ) (ls : List Cells) → unwrap_or (find (entered columns t at ls) k) [] ≡ unwrap_or (find t k) [] ++ places_of (goes_in columns k) at ls
 found_from columns k t at [] = sym (append-nil (unwrap_or (find t k) []))
 found_from columns k t at (l ∷ ls) =
     found_from columns k (enter columns t at l) (suc at) ls
-    ∙ by (list_any is_null (key_list columns l)) (same_keys (key_list columns l) k) refl
+    ∙ by (list_any is_null (cells_at columns l)) (same_keys (cells_at columns l) k) refl
   where
     opened : (c : Bool) → unwrap_or (cond c (Some (unwrap_or (find t k) [] ++ at ∷ [])) (find t k)) [] ++ places_of (goes_in columns k) (suc at) ls
         ≡ unwrap_or (find t k) [] ++ cond c (at ∷ places_of (goes_in columns k) (suc at) ls) (places_of (goes_in columns k) (suc at) ls)
     opened true = append_assoc (unwrap_or (find t k) []) (at ∷ []) (places_of (goes_in columns k) (suc at) ls)
     opened false = refl
 
-    by : (b c : Bool) → same_keys (key_list columns l) k ≡ c
-        → unwrap_or (find (cond b t (upsert t (key_list columns l) [] (λ places. places ++ at ∷ []))) k) [] ++ places_of (goes_in columns k) (suc at) ls
+    by : (b c : Bool) → same_keys (cells_at columns l) k ≡ c
+        → unwrap_or (find (cond b t (upsert t (cells_at columns l) [] (λ places. places ++ at ∷ []))) k) [] ++ places_of (goes_in columns k) (suc at) ls
         ≡ unwrap_or (find t k) [] ++ cond (not b && c) (at ∷ places_of (goes_in columns k) (suc at) ls) (places_of (goes_in columns k) (suc at) ls)
     by true c e = refl
     by false c e =
-        ap (λ o. unwrap_or o [] ++ places_of (goes_in columns k) (suc at) ls) (find-upsert t (key_list columns l) k [] (λ places. places ++ at ∷ []) ∙ ap (λ b. cond b (Some (unwrap_or (find t k) [] ++ at ∷ [])) (find t k)) e)
+        ap (λ o. unwrap_or o [] ++ places_of (goes_in columns k) (suc at) ls) (find-upsert t (cells_at columns l) k [] (λ places. places ++ at ∷ []) ∙ ap (λ b. cond b (Some (unwrap_or (find t k) [] ++ at ∷ [])) (find t k)) e)
         ∙ opened c
 
 places_same : (p q : Cells → Bool) → ((l : Cells) → p l ≡ q l) → (at : ℕ) (ls : List Cells) → places_of p at ls ≡ places_of q at ls
@@ -82,16 +82,16 @@ both_ands false false true t = refl
 both_ands false false false t = refl
 both_ands false true b t = refl
 
-pub match_is : (keys : List (ℕ × ℕ)) (l r : Cells) → goes_in (left_keys keys) (key_list (right_keys keys) r) l ≡ keys_match keys l r
+pub match_is : (keys : List (ℕ × ℕ)) (l r : Cells) → goes_in (left_keys keys) (cells_at (right_keys keys) r) l ≡ keys_match keys l r
 match_is [] l r = refl
 match_is (key ∷ keys) l r =
-    sym (both_ands (is_null (cell l key.0)) (same_value (cell l key.0) (cell r key.1)) (list_any is_null (key_list (left_keys keys) l)) (same_keys (key_list (left_keys keys) l) (key_list (right_keys keys) r)))
+    sym (both_ands (is_null (cell l key.0)) (same_value (cell l key.0) (cell r key.1)) (list_any is_null (cells_at (left_keys keys) l)) (same_keys (cells_at (left_keys keys) l) (cells_at (right_keys keys) r)))
     ∙ (ap (λ b. (not (is_null (cell l key.0)) && same_value (cell l key.0) (cell r key.1)) && b) (match_is keys l r)
     ∙ ap (λ b. b && keys_match keys l r) (sym (one_match (cell l key.0) (cell r key.1))))
 
 -- the table tells the places of the left rows that match, in their order
 pub matches_are : (keys : List (ℕ × ℕ)) (ls : List Cells) (r : Cells) → matches keys ls r ≡ places_of (λ l. keys_match keys l r) 0 ls
-matches_are keys ls r = found_from (left_keys keys) (key_list (right_keys keys) r) [] 0 ls ∙ places_same (goes_in (left_keys keys) (key_list (right_keys keys) r)) (λ l. keys_match keys l r) (λ l. match_is keys l r) 0 ls
+matches_are keys ls r = found_from (left_keys keys) (cells_at (right_keys keys) r) [] 0 ls ∙ places_same (goes_in (left_keys keys) (cells_at (right_keys keys) r)) (λ l. keys_match keys l r) (λ l. match_is keys l r) 0 ls
 
 -- a table grows by rows
 pub entered-append : (columns : List ℕ) (t : KeyPlaces) (at : ℕ) (ls more : List Cells) → entered columns t at (ls ++ more) ≡ entered columns (entered columns t at ls) (at + length ls) more

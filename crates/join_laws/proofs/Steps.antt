@@ -5,7 +5,7 @@ use Rattle.std.proofs.lemmas.Bool.{true≢false}
 use Rattle.std.proofs.lemmas.List.{append-nil, append_assoc, drop-append-le, drop-drop, length-append, length-drop, replicate-append-replicate}
 use Rattle.std.proofs.lemmas.List.Concat.{flat_map-append}
 use Rattle.std.proofs.lemmas.List.Sums.{fold-append}
-use Rattle.scalar_exprs.specs.Groups.{key_list}
+use Rattle.dfx_value.specs.Rows.{cells_at}
 use Rattle.logical_plan.specs.Items.{Cells, Item, rows, of_rows, of_faults}
 use Rattle.logical_plan.specs.Joins.{residual, nulls, alone, left_alone, right_pairs, keeps_left, keeps_right, when}
 use Rattle.physical_plan.specs.Properties.{left_keys, right_keys}
@@ -55,7 +55,7 @@ module _ (j : Join) where
       ∙ ap (λ zs. record s { marks = fold (λ marks r. marked j.rest s.lefts r marks (places_at j s r)) (marked j.rest s.lefts r s.marks (places_at j s r)) rs; waiting = zs }) (append_assoc s.waiting (given_by j s r) (flat_map (given_by j s) rs))
 
   places_same : (s : JoinState) (ls : List Cells) (r : Cells) → s.table ≡ entered (left_keys j.keys) [] 0 ls → places_at j s r ≡ matches j.keys ls r
-  places_same s ls r e = ap (λ (t : KeyPlaces). unwrap_or (find t (key_list (right_keys j.keys) r)) []) e
+  places_same s ls r e = ap (λ (t : KeyPlaces). unwrap_or (find t (cells_at (right_keys j.keys) r)) []) e
 
   given_same : (s : JoinState) (ls : List Cells) (r : Cells) → s.lefts ≡ ls → s.table ≡ entered (left_keys j.keys) [] 0 ls → given_by j s r ≡ gives ls r
   given_same s ls r e f =

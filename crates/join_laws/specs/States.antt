@@ -2,8 +2,8 @@
 use Rattle.std.specs.Prelude.{ℕ, ◌≤◌, ◌≡◌, Bool, true, false, Option, unwrap_or, List, [], ◌++◌, length, replicate, drop, if◌then◌else◌}
 use Rattle.std.specs.List.{flat_map, fold}
 use Rattle.dfx_value.specs.declared.op.JoinKind.{JoinKind}
+use Rattle.dfx_value.specs.Rows.{cells_at}
 use Rattle.scalar_exprs.specs.declared.expr.Expr.{Expr}
-use Rattle.scalar_exprs.specs.Groups.{key_list}
 use Rattle.logical_plan.specs.Items.{Cells, Item}
 use Rattle.logical_plan.specs.Joins.{residual, nulls, alone, keeps_left, keeps_right, when}
 use Rattle.physical_plan.specs.Properties.{left_keys, right_keys}
@@ -40,7 +40,7 @@ at_start = record { lefts = []; table = []; marks = []; waiting = []; left_over 
 
 -- the places that the table tells of a right row
 abbrev pub places_at : Join → JoinState → Cells → List ℕ
-places_at j s r = unwrap_or (find s.table (key_list (right_keys j.keys) r)) []
+places_at j s r = unwrap_or (find s.table (cells_at (right_keys j.keys) r)) []
 
 abbrev pub pairs_at : Join → JoinState → Cells → List Item
 pairs_at j s r = flat_map (λ at. residual j.rest (row_at s.lefts at ++ r)) (places_at j s r)

@@ -1,8 +1,8 @@
 -- Words: the table by which a join finds the left rows of a right row, and the marks of left rows.
 use Rattle.std.specs.Prelude.{ℕ, suc, Bool, true, false, Option, unwrap_or, List, [], ◌∷◌, ◌++◌, length, replicate, slice_set, slice_index_or, Ok, if◌then◌else◌}
 use Rattle.std.specs.List.{fold, list_any}
+use Rattle.dfx_value.specs.Rows.{cells_at}
 use Rattle.scalar_exprs.specs.declared.expr.Expr.{Expr}
-use Rattle.scalar_exprs.specs.Groups.{key_list}
 use Rattle.scalar_exprs.specs.Truth.{is_null}
 use Rattle.logical_plan.specs.Items.{Cells, Item}
 use Rattle.logical_plan.specs.Joins.{residual, nulls}
@@ -18,8 +18,8 @@ KeyPlaces = List (Cells × List ℕ)
 -- one more left row, of this place: a row with a NULL among its keys matches nothing, and stays out
 abbrev pub enter : List ℕ → KeyPlaces → ℕ → Cells → KeyPlaces
 enter columns t at l =
-    if list_any is_null (key_list columns l) then t
-    else upsert t (key_list columns l) [] (λ places. places ++ at ∷ [])
+    if list_any is_null (cells_at columns l) then t
+    else upsert t (cells_at columns l) [] (λ places. places ++ at ∷ [])
 
 -- more left rows, the first of which has this place
 abbrev pub entered : List ℕ → KeyPlaces → ℕ → List Cells → KeyPlaces
@@ -28,7 +28,7 @@ entered columns t at (l ∷ ls) = entered columns (enter columns t at l) (suc at
 
 -- the places of the left rows that match a right row, by the table of all left rows
 abbrev pub matches : List (ℕ × ℕ) → List Cells → Cells → List ℕ
-matches keys ls r = unwrap_or (find (entered (left_keys keys) [] 0 ls) (key_list (right_keys keys) r)) []
+matches keys ls r = unwrap_or (find (entered (left_keys keys) [] 0 ls) (cells_at (right_keys keys) r)) []
 
 -- the places of rows that pass a test, the first of which has this place
 abbrev pub places_of : (Cells → Bool) → ℕ → List Cells → List ℕ

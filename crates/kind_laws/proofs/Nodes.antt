@@ -10,10 +10,11 @@ use Rattle.dfx_value.specs.declared.fault.ItemFault.{ItemFault}
 use Rattle.dfx_value.specs.declared.kind.Kind.{Kind}
 use Rattle.dfx_value.specs.declared.op.AggCall.{AggCall}
 use Rattle.dfx_value.specs.declared.op.JoinKind.{JoinKind}
+use Rattle.dfx_value.specs.Rows.{cells_at}
 use Rattle.scalar_exprs.specs.declared.expr.Expr.{Expr}
 use Rattle.scalar_exprs.specs.Agg.{agg_rows}
 use Rattle.scalar_exprs.specs.Eval.{Outcome, eval}
-use Rattle.scalar_exprs.specs.Groups.{key_list, same_keys, firsts}
+use Rattle.scalar_exprs.specs.Groups.{same_keys, firsts}
 use Rattle.scalar_exprs.specs.Truth.{is_true}
 use Rattle.logical_plan.specs.Items.{Cells, Item, rows, faults, of_rows, of_faults, as_item, all_values, tested, filtered, filter_items, projected_row, projected, project_items}
 use Rattle.logical_plan.specs.Joins.{keys_match, residual, paired, left_pairs, right_pairs, pairs, nulls, alone, left_alone, right_alone, keeps_left, keeps_right, when, joined}
@@ -113,10 +114,10 @@ pub aggregate_gives : (columns : List Kind) (keys : List ℕ) (calls : List AggC
 aggregate_gives columns [] calls p q items g = one_fits columns calls (rows items) (faults items) q g
 aggregate_gives columns (c ∷ cs) calls p q items g =
     let ks = key_kinds columns (c ∷ cs) ++ call_kinds columns calls in
-    let of = λ (r : Cells). group_item (key_list (c ∷ cs) r) calls columns (group_of (c ∷ cs) (rows items) r) in
+    let of = λ (r : Cells). group_item (cells_at (c ∷ cs) r) calls columns (group_of (c ∷ cs) (rows items) r) in
     items_append ks (of_faults (faults items)) (map of (firsts (alike (c ∷ cs)) (rows items))) (faults_alone ks (faults items))
     (rows_map columns ks of
-    (λ r h. group_fits (key_kinds columns (c ∷ cs)) columns (key_list (c ∷ cs) r) calls (group_of (c ∷ cs) (rows items) r) (keys_fit columns r h (c ∷ cs) p) q (all_filter columns (alike (c ∷ cs) r) (rows items) g))
+    (λ r h. group_fits (key_kinds columns (c ∷ cs)) columns (cells_at (c ∷ cs) r) calls (group_of (c ∷ cs) (rows items) r) (keys_fit columns r h (c ∷ cs) p) q (all_filter columns (alike (c ∷ cs) r) (rows items) g))
     (firsts (alike (c ∷ cs)) (rows items)) (all_firsts columns (alike (c ∷ cs)) (rows items) g))
 
 pub distinct_gives : (ks : List Kind) (items : List Item) → all_are ks (rows items) ≡ true → all_are ks (rows (distinct items)) ≡ true

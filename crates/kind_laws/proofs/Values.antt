@@ -10,7 +10,7 @@ use Rattle.dfx_value.specs.Number.{Number}
 use Rattle.dfx_value.specs.Kinds.{is_of, are_of}
 use Rattle.dfx_value.specs.KindedRows.{all_are}
 use Rattle.dfx_value.specs.Order.{value_cmp}
-use Rattle.dfx_value.specs.Rows.{cell}
+use Rattle.dfx_value.specs.Rows.{cell, cells_at}
 use Rattle.dfx_value.specs.declared.fault.EvalFault.{EvalFault}
 use Rattle.dfx_value.specs.declared.fault.EvalFault.TheVariants.{Overflow}
 use Rattle.dfx_value.specs.declared.kind.Kind.{Kind}
@@ -26,7 +26,6 @@ use Rattle.scalar_exprs.specs.Truth.{is_null}
 use Rattle.scalar_exprs.specs.Kinds as opt
 use Rattle.scalar_exprs.specs.Kinds.{kind_of, constants_fit, call_kind, argument_kind, scale_of, total_kind, mean_kind, mean_scale, widest}
 use Rattle.scalar_exprs.specs.Agg.{agg, agg_rows, argument, present, counted, gains, losses, is_over, total, or_null, summed, averaged, lesser, greater, least, greatest, from_first}
-use Rattle.scalar_exprs.specs.Groups.{key_list}
 use Rattle.scalar_exprs.proofs.ValueKinds.{Fits, null_is_of}
 use Rattle.scalar_exprs.proofs.KindLemmas.{kind_sound}
 use Rattle.logical_plan.specs.Items.{Cells, all_values}
@@ -75,7 +74,7 @@ key_fits columns row cells c p = go (slice_get columns c) p (λ k s. cell_fits c
   go (Some k) p h = h k refl
   go None p h = absurd (false≢true p)
 
-pub keys_fit : (columns : List Kind) (row : Cells) → are_of columns row ≡ true → (keys : List ℕ) → has_columns columns keys ≡ true → are_of (key_kinds columns keys) (key_list keys row) ≡ true
+pub keys_fit : (columns : List Kind) (row : Cells) → are_of columns row ≡ true → (keys : List ℕ) → has_columns columns keys ≡ true → are_of (key_kinds columns keys) (cells_at keys row) ≡ true
 keys_fit columns row cells [] p = refl
 keys_fit columns row cells (c ∷ cs) p =
     let b = and_parts (is_some (slice_get columns c)) (has_columns columns cs) p in

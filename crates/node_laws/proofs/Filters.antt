@@ -31,10 +31,6 @@ use Rattle.node_laws.proofs.Meetings.{Carries, meets_by_row, agree-append, pairs
 
 -- ---- what a true test says
 
-nulls_same : (v : Value) → Rattle.plan_props.specs.Meets.is_null v ≡ is_null v
-nulls_same value.Null = refl
-nulls_same _ = refl
-
 eq_is : (o : Ordering) → is_eq o ≡ true → o ≡ Equal
 eq_is Less h = absurd (false≢true h)
 eq_is Equal h = refl
@@ -44,13 +40,13 @@ abbrev equal : Value → Value → Value
 equal a b = from_truth (option_map is_eq (order_of a b))
 
 -- two values that are equal in truth
-yes_equal : (a b : Value) → is_true (equal a b) ≡ true → Equals a b × (Rattle.plan_props.specs.Meets.is_null a ≡ false)
+yes_equal : (a b : Value) → is_true (equal a b) ≡ true → Equals a b × (is_null a ≡ false)
 yes_equal a b h = go (is_null a) refl (is_null b) h
   where
-    go : (x : Bool) → is_null a ≡ x → (y : Bool) → is_true (from_truth (option_map is_eq (cond {A = Option Ordering} (x || y) None (Some (value_cmp a b))))) ≡ true → Equals a b × (Rattle.plan_props.specs.Meets.is_null a ≡ false)
+    go : (x : Bool) → is_null a ≡ x → (y : Bool) → is_true (from_truth (option_map is_eq (cond {A = Option Ordering} (x || y) None (Some (value_cmp a b))))) ≡ true → Equals a b × (is_null a ≡ false)
     go true e y h = cc
     go false e true h = cc
-    go false e false h = (eq_is (value_cmp a b) (true_is (is_eq (value_cmp a b)) h), nulls_same a ∙ e)
+    go false e false h = (eq_is (value_cmp a b) (true_is (is_eq (value_cmp a b)) h), e)
       where
         true_is : (t : Bool) → is_true (value.Bool t) ≡ true → t ≡ true
         true_is true h = refl

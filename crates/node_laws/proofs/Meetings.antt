@@ -12,7 +12,8 @@ use Rattle.plan_props.specs.declared.properties.Partitioning.{Partitioning}
 use Rattle.plan_props.specs.declared.properties.Partitioning.TheVariants as parting
 use Rattle.plan_props.specs.declared.properties.Props.{Props}
 use Rattle.plan_props.specs.Satisfies.{partition_count}
-use Rattle.plan_props.specs.Meets.{Row, Hashing, Equals, PairsHold, Agree, cells_at, Each, NotBefore, InOrder, Hashed, part, Meets, is_null}
+use Rattle.plan_props.specs.Meets.{Row, Hashing, Equals, PairsHold, Agree, cells_at, Each, NotBefore, InOrder, Hashed, part, Meets}
+use Rattle.scalar_exprs.specs.Truth.{is_null}
 use Rattle.physical_plan.specs.Properties.{Renaming, all_renamed, and_all, hashed_or_unknown, partitioning_renamed, key_before, keys_renamed, pair_before, pairs_renamed}
 use Rattle.node_laws.specs.NodeRows.{by_row}
 

@@ -11,7 +11,8 @@ use Rattle.dfx_value.specs.declared.op.JoinKind.TheVariants.{Inner, Left}
 use Rattle.plan_props.specs.declared.properties.Partitioning.{Partitioning}
 use Rattle.plan_props.specs.declared.properties.Partitioning.TheVariants as parting
 use Rattle.plan_props.specs.Satisfies.{partition_count}
-use Rattle.plan_props.specs.Meets.{Row, Hashing, Equals, PairsHold, Agree, cells_at, Each, NotBefore, InOrder, Hashed, part, Meets, is_null}
+use Rattle.plan_props.specs.Meets.{Row, Hashing, Equals, PairsHold, Agree, cells_at, Each, NotBefore, InOrder, Hashed, part, Meets}
+use Rattle.scalar_exprs.specs.Truth.{is_null}
 use Rattle.plan_props.proofs.Sound.{each_map, each_all}
 use Rattle.physical_plan.specs.declared.properties.Declared.{Declared}
 use Rattle.physical_plan.specs.Properties.{sorted, kept_order, repartitioned, or_single, declared_partitions, united, hash_joined, left_keys, shifted, joined_pairs}

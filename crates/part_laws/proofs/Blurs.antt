@@ -7,9 +7,10 @@ use Rattle.dfx_value.specs.declared.fault.ItemFault.TheVariants.{Evaluation}
 use Rattle.dfx_value.specs.declared.fault.EvalFault.TheVariants.{Overflow}
 use Rattle.dfx_value.specs.declared.kind.Kind.{Kind}
 use Rattle.dfx_value.specs.declared.op.AggCall.{AggCall}
+use Rattle.dfx_value.specs.Rows.{cells_at}
 use Rattle.logical_plan.specs.Items.{Cells, Item, rows, faults, of_rows, of_faults, concat}
 use Rattle.logical_plan.specs.Groups.{alike, aggregated, group_item, group_of, one_group}
-use Rattle.scalar_exprs.specs.Groups.{key_list, firsts}
+use Rattle.scalar_exprs.specs.Groups.{firsts}
 use Rattle.content_laws.specs.Bags.{SameBag, together, Alike}
 use Rattle.phase_laws.specs.Phases.{grouped, phase, phase_rows, final, final_item, one_final, AreApart}
 use Rattle.answer_laws.proofs.Weights.{map_weighs}
@@ -108,7 +109,7 @@ aggregated_blurs (c ∷ cs) calls kinds xs w blind =
     ∙ ap (λ (rs : List Cells). sum_by w (of_faults (faults xs) ++ with_rows rs)) (same_rows xs)
   where
     with_rows : List Cells → List Item
-    with_rows rs = map (λ r. group_item (key_list (c ∷ cs) r) calls kinds (group_of (c ∷ cs) rs r)) (firsts (alike (c ∷ cs)) rs)
+    with_rows rs = map (λ r. group_item (cells_at (c ∷ cs) r) calls kinds (group_of (c ∷ cs) rs r)) (firsts (alike (c ∷ cs)) rs)
 
 pub final_blurs : (keys : List ℕ) (calls : List AggCall) (kinds : List Kind) (xs : List Item) → Alike (final keys calls kinds (blurred xs)) (final keys calls kinds xs)
 final_blurs [] calls kinds xs w blind = one_alike (one_final calls kinds) (λ rs f g fs gs w blind. ap (λ (n : ℕ). 0 + n) (blind f g)) xs w blind
@@ -117,7 +118,7 @@ final_blurs (k ∷ ks) calls kinds xs w blind =
     ∙ ap (λ (rs : List Cells). sum_by w (of_faults (faults xs) ++ with_rows rs)) (same_rows xs)
   where
     with_rows : List Cells → List Item
-    with_rows rs = grouped (key_list (k ∷ ks)) (final_item (length (k ∷ ks)) calls kinds) rs
+    with_rows rs = grouped (cells_at (k ∷ ks)) (final_item (length (k ∷ ks)) calls kinds) rs
 
 pub finals_blur : (keys : List ℕ) (calls : List AggCall) (kinds : List Kind) (n : ℕ) (parts : ℕ → List Item)
     → Alike (together n (λ i. final keys calls kinds (blurred (parts i)))) (together n (λ i. final keys calls kinds (parts i)))

@@ -7,7 +7,8 @@ use Rattle.std.proofs.lemmas.List.Sums.{AllPass-from_list_all}
 use Rattle.dfx_value.specs.Kinds.{are_of}
 use Rattle.dfx_value.specs.declared.kind.Kind.{Kind}
 use Rattle.dfx_value.proofs.BatchLemmas.{length-are_of}
-use Rattle.scalar_exprs.specs.Groups.{key_list, same_keys, firsts}
+use Rattle.dfx_value.specs.Rows.{cells_at}
+use Rattle.scalar_exprs.specs.Groups.{same_keys, firsts}
 use Rattle.logical_plan.specs.Items.{Cells, Item, rows, faults, of_rows, of_faults}
 use Rattle.logical_plan.specs.Groups.{alike, group_of, group_item, aggregated, distinct}
 use Rattle.phase_laws.specs.Phases.{IsApart}
@@ -30,15 +31,15 @@ map_on : {A B : Type 0} (ok : A → Bool) (f g : A → B) → ((x : A) → ok x 
 map_on ok f g h [] e = refl
 map_on ok f g h (x ∷ xs) e = ap (λ y. y ∷ map f xs) (h x e.0) ∙ ap (λ ys. g x ∷ ys) (map_on ok f g h xs e.1)
 
-row_is : (kinds : List Kind) (row : Cells) → are_of kinds row ≡ true → key_list (numbers (length kinds)) row ≡ row
-row_is kinds row e = ap (λ n. key_list (numbers n) row) (sym (length-are_of kinds row e)) ∙ (ap (key_list (numbers (length row))) (sym (append-nil row)) ∙ all_columns row [])
+row_is : (kinds : List Kind) (row : Cells) → are_of kinds row ≡ true → cells_at (numbers (length kinds)) row ≡ row
+row_is kinds row e = ap (λ n. cells_at (numbers n) row) (sym (length-are_of kinds row e)) ∙ (ap (cells_at (numbers (length row))) (sym (append-nil row)) ∙ all_columns row [])
 
 pub distinct_is : (kinds : List Kind) (input : List Item) → AllPass (are_of kinds) (rows input) → 0 < length kinds → distinct input ≡ aggregated (numbers (length kinds)) [] kinds input
 distinct_is [] input good some = absurd (omega arith)
 distinct_is (k ∷ ks) input good some =
     ap (λ zs. of_faults (faults input) ++ zs)
-    (ap of_rows (firsts_on (are_of (k ∷ ks)) same_keys (alike (numbers (length (k ∷ ks)))) (λ r s e f. sym (ap (λ x. same_keys x (key_list (numbers (length (k ∷ ks))) s)) (row_is (k ∷ ks) r e) ∙ ap (same_keys r) (row_is (k ∷ ks) s f))) (rows input) each)
-    ∙ map_on (are_of (k ∷ ks)) (λ r. Ok r) (λ r. group_item (key_list (numbers (length (k ∷ ks))) r) [] (k ∷ ks) (group_of (numbers (length (k ∷ ks))) (rows input) r)) (λ r e. ap (λ x. Ok x) (sym (append-nil (key_list (numbers (length (k ∷ ks))) r) ∙ row_is (k ∷ ks) r e))) (firsts (alike (numbers (length (k ∷ ks)))) (rows input)) (each-firsts (are_of (k ∷ ks)) (alike (numbers (length (k ∷ ks)))) (rows input) each))
+    (ap of_rows (firsts_on (are_of (k ∷ ks)) same_keys (alike (numbers (length (k ∷ ks)))) (λ r s e f. sym (ap (λ x. same_keys x (cells_at (numbers (length (k ∷ ks))) s)) (row_is (k ∷ ks) r e) ∙ ap (same_keys r) (row_is (k ∷ ks) s f))) (rows input) each)
+    ∙ map_on (are_of (k ∷ ks)) (λ r. Ok r) (λ r. group_item (cells_at (numbers (length (k ∷ ks))) r) [] (k ∷ ks) (group_of (numbers (length (k ∷ ks))) (rows input) r)) (λ r e. ap (λ x. Ok x) (sym (append-nil (cells_at (numbers (length (k ∷ ks))) r) ∙ row_is (k ∷ ks) r e))) (firsts (alike (numbers (length (k ∷ ks)))) (rows input)) (each-firsts (are_of (k ∷ ks)) (alike (numbers (length (k ∷ ks)))) (rows input) each))
   where
     each : Each (are_of (k ∷ ks)) (rows input)
     each = each_pass (are_of (k ∷ ks)) (rows input) good

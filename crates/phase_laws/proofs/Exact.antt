@@ -11,7 +11,7 @@ use Rattle.dfx_value.specs.Number.{Number}
 use Rattle.dfx_value.specs.Decimal.{units, compare}
 use Rattle.dfx_value.specs.Order.{value_cmp}
 use Rattle.dfx_value.specs.Kinds.{is_of, are_of}
-use Rattle.dfx_value.specs.Rows.{cell}
+use Rattle.dfx_value.specs.Rows.{cell, cells_at}
 use Rattle.dfx_value.specs.declared.kind.Kind.{Kind}
 use Rattle.dfx_value.specs.declared.kind.Kind.TheVariants as kind
 use Rattle.dfx_value.specs.declared.value.Value.{Value}
@@ -19,7 +19,7 @@ use Rattle.dfx_value.specs.declared.value.Value.TheVariants as value
 use Rattle.dfx_value.proofs.OrderLemmas.{ints, decimals}
 use Rattle.dfx_value.proofs.DecimalLemmas.{int_cmp_scaled, ten_positive}
 use Rattle.scalar_exprs.specs.Truth.{is_null}
-use Rattle.scalar_exprs.specs.Groups.{key_list, same_keys, same_value}
+use Rattle.scalar_exprs.specs.Groups.{same_keys, same_value}
 use Rattle.key_laws.proofs.Found.{same_keys_laws}
 use Rattle.phase_laws.proofs.Firsts.{IsExactAmong}
 
@@ -113,9 +113,9 @@ key_fits kinds [] [] = true
 key_fits kinds (c ∷ cs) (v ∷ vs) = of_column (slice_get kinds c) v && key_fits kinds cs vs
 key_fits kinds _ _ = false
 
-pub key_list_fits : (kinds : List Kind) (columns : List ℕ) (row : List Value) → are_of kinds row ≡ true → key_fits kinds columns (key_list columns row) ≡ true
-key_list_fits kinds [] row h = refl
-key_list_fits kinds (c ∷ cs) row h = and_from _ _ (cell_fits kinds row c h) (key_list_fits kinds cs row h)
+pub cells_at_fits : (kinds : List Kind) (columns : List ℕ) (row : List Value) → are_of kinds row ≡ true → key_fits kinds columns (cells_at columns row) ≡ true
+cells_at_fits kinds [] row h = refl
+cells_at_fits kinds (c ∷ cs) row h = and_from _ _ (cell_fits kinds row c h) (cells_at_fits kinds cs row h)
 
 same_keys_is : (kinds : List Kind) (columns : List ℕ) (a b : List Value) → key_fits kinds columns a ≡ true → key_fits kinds columns b ≡ true → same_keys a b ≡ true → a ≡ b
 same_keys_is kinds [] [] [] f g e = refl

@@ -6,7 +6,8 @@ use Rattle.std.specs.Cmp.{Equal-is}
 use Rattle.std.proofs.lemmas.Bool.{true≢false, and_parts}
 use Rattle.dfx_value.specs.Order.{value_cmp}
 use Rattle.dfx_value.specs.declared.value.Value.{Value}
-use Rattle.scalar_exprs.specs.Groups.{key_list, same_keys, same_value}
+use Rattle.dfx_value.specs.Rows.{cells_at}
+use Rattle.scalar_exprs.specs.Groups.{same_keys, same_value}
 use Rattle.logical_plan.specs.Items.{Cells, Item, rows}
 use Rattle.logical_plan.specs.Groups.{alike}
 use Rattle.phase_laws.specs.Phases.{AreApart}
@@ -23,15 +24,15 @@ all_equal (x ∷ xs) (y ∷ ys) e = let p = and_parts (same_value x y) (same_key
 all_equal [] (y ∷ ys) e = absurd (true≢false (sym e))
 all_equal (x ∷ xs) [] e = absurd (true≢false (sym e))
 
-none_of : (keys : List ℕ) (i j : ℕ) → (i ≡ j → ⊥) → (r : Cells) (ys : List Cells) → EachRow (λ s. AllEqual (key_list keys r) (key_list keys s) → i ≡ j) ys → not (list_any (alike keys r) ys) ≡ true
+none_of : (keys : List ℕ) (i j : ℕ) → (i ≡ j → ⊥) → (r : Cells) (ys : List Cells) → EachRow (λ s. AllEqual (cells_at keys r) (cells_at keys s) → i ≡ j) ys → not (list_any (alike keys r) ys) ≡ true
 none_of keys i j other r [] h = refl
 none_of keys i j other r (s ∷ ss) h = by (alike keys r s) refl (none_of keys i j other r ss h.1)
   where
     by : (b : Bool) → alike keys r s ≡ b → not (list_any (alike keys r) ss) ≡ true → not (b || list_any (alike keys r) ss) ≡ true
-    by true e ih = absurd (other (h.0 (all_equal (key_list keys r) (key_list keys s) e)))
+    by true e ih = absurd (other (h.0 (all_equal (cells_at keys r) (cells_at keys s) e)))
     by false e ih = ih
 
-each_apart : (keys : List ℕ) (i j : ℕ) → (i ≡ j → ⊥) → (xs ys : List Cells) → EachRow (λ r. EachRow (λ s. AllEqual (key_list keys r) (key_list keys s) → i ≡ j) ys) xs → Each (λ r. not (list_any (alike keys r) ys)) xs
+each_apart : (keys : List ℕ) (i j : ℕ) → (i ≡ j → ⊥) → (xs ys : List Cells) → EachRow (λ r. EachRow (λ s. AllEqual (cells_at keys r) (cells_at keys s) → i ≡ j) ys) xs → Each (λ r. not (list_any (alike keys r) ys)) xs
 each_apart keys i j other [] ys h = tt
 each_apart keys i j other (r ∷ rs) ys h = (none_of keys i j other r ys h.0, each_apart keys i j other rs ys h.1)
 
@@ -39,7 +40,7 @@ pub gathered : (column : ℕ) (columns : List ℕ) (n : ℕ) (parts : ℕ → Li
 gathered column columns n parts h = λ i j l m. all_from _ (rows (parts i)) (each_apart (column ∷ columns) i j (λ e. omega arith) (rows (parts i)) (rows (parts j)) (lying i j l m))
   where
     LieTogether : ℕ → ℕ → List Cells → List Cells → Type 0
-    LieTogether i j xs ys = EachRow (λ r. EachRow (λ s. AllEqual (key_list (column ∷ columns) r) (key_list (column ∷ columns) s) → i ≡ j) ys) xs
+    LieTogether i j xs ys = EachRow (λ r. EachRow (λ s. AllEqual (cells_at (column ∷ columns) r) (cells_at (column ∷ columns) s) → i ≡ j) ys) xs
 
     lying : (i j : ℕ) → i < j → j < n → LieTogether i j (rows (parts i)) (rows (parts j))
     lying i j l m =

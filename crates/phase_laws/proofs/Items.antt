@@ -7,7 +7,7 @@ use Rattle.dfx_value.specs.Kinds.{are_of}
 use Rattle.dfx_value.specs.declared.kind.Kind.{Kind}
 use Rattle.dfx_value.specs.declared.fault.ItemFault.{ItemFault}
 use Rattle.dfx_value.specs.declared.op.AggCall.{AggCall}
-use Rattle.scalar_exprs.specs.Groups.{key_list}
+use Rattle.dfx_value.specs.Rows.{cells_at}
 use Rattle.logical_plan.specs.Items.{Cells, Item, rows, faults, of_faults, concat}
 use Rattle.logical_plan.specs.Groups.{alike, group_item, one_group, aggregated}
 use Rattle.phase_laws.specs.Phases.{IsApart, AreApart, grouped, phase_rows, phase, phase_kinds, final_item, one_final, final}
@@ -40,20 +40,20 @@ pub each_pass : {A : Type 0} (p : A → Bool) (xs : List A) → AllPass p xs →
 each_pass p xs h = each_from p xs (list_all-from_AllPass p xs h)
 
 -- a partition is apart from those before it together
-apart_before : (keys : List ℕ) (m n : ℕ) (parts : ℕ → List Item) → m ≤ n → ((i : ℕ) → i < n → IsApart keys (parts i) (parts n)) → Each (λ r. not (list_any (like (key_list keys) r) (rows (parts n)))) (rows (together m parts))
+apart_before : (keys : List ℕ) (m n : ℕ) (parts : ℕ → List Item) → m ≤ n → ((i : ℕ) → i < n → IsApart keys (parts i) (parts n)) → Each (λ r. not (list_any (like (cells_at keys) r) (rows (parts n)))) (rows (together m parts))
 apart_before keys zero n parts l h = tt
 apart_before keys (suc m) n parts l h =
-    subst (Each (λ r. not (list_any (like (key_list keys) r) (rows (parts n))))) (sym (rows-append (together m parts) (parts m)))
+    subst (Each (λ r. not (list_any (like (cells_at keys) r) (rows (parts n))))) (sym (rows-append (together m parts) (parts m)))
     (each-append _ (rows (together m parts)) (rows (parts m)) (apart_before keys m n parts (omega arith) h) (each_pass _ (rows (parts m)) (h m (omega arith))))
 
 pub together_groups : {X : Type 0} (keys : List ℕ) (n : ℕ) (ans : Cells → List Cells → X) (w : X → ℕ) (parts : ℕ → List Item) → ((i j : ℕ) → i < j → j < n → IsApart keys (parts i) (parts j))
-    → sum_by w (together n (λ i. grouped (key_list keys) ans (rows (parts i)))) ≡ sum_by w (grouped (key_list keys) ans (rows (together n parts)))
+    → sum_by w (together n (λ i. grouped (cells_at keys) ans (rows (parts i)))) ≡ sum_by w (grouped (cells_at keys) ans (rows (together n parts)))
 together_groups keys zero ans w parts h = refl
 together_groups keys (suc n) ans w parts h =
-    sum_by-append w (together n (λ i. grouped (key_list keys) ans (rows (parts i)))) (grouped (key_list keys) ans (rows (parts n)))
-    ∙ (ap (λ m. m + sum_by w (grouped (key_list keys) ans (rows (parts n)))) (together_groups keys n ans w parts (λ i j l m. h i j l (omega arith)))
-    ∙ (sym (grouped-append (key_list keys) ans w (rows (together n parts)) (rows (parts n)) (apart_before keys n n parts (omega arith) (λ i l. h i n l (omega arith))))
-    ∙ ap (λ zs. sum_by w (grouped (key_list keys) ans zs)) (sym (rows-append (together n parts) (parts n)))))
+    sum_by-append w (together n (λ i. grouped (cells_at keys) ans (rows (parts i)))) (grouped (cells_at keys) ans (rows (parts n)))
+    ∙ (ap (λ m. m + sum_by w (grouped (cells_at keys) ans (rows (parts n)))) (together_groups keys n ans w parts (λ i j l m. h i j l (omega arith)))
+    ∙ (sym (grouped-append (cells_at keys) ans w (rows (together n parts)) (rows (parts n)) (apart_before keys n n parts (omega arith) (λ i l. h i n l (omega arith))))
+    ∙ ap (λ zs. sum_by w (grouped (cells_at keys) ans zs)) (sym (rows-append (together n parts) (parts n)))))
 
 -- ---- the law
 
@@ -66,14 +66,14 @@ with_keys column columns calls kinds segments input n parts good same came apart
     let came_rows : SameBag (flat_map (phase_rows (column ∷ columns) calls kinds) (map rows segments)) (rows (together n parts))
     = λ v. sym (bag_rows (together n parts) (flat_map (phase (column ∷ columns) calls kinds) segments) came v ∙ ap (sum_by v) (rows-phase (column ∷ columns) calls kinds segments)) in
     let same_rows : SameBag (concat (map rows segments)) (rows input) = λ v. ap (sum_by v) (sym (rows-concat segments)) ∙ bag_rows (concat segments) input same v in
-    let a : sum_by w (together n (λ i. final (numbers (length (column ∷ columns))) calls (phase_kinds (column ∷ columns) calls kinds) (parts i))) ≡ sum_by w (together n (λ i. of_faults (faults (parts i)))) + sum_by w (together n (λ i. grouped (key_list (numbers (length (column ∷ columns)))) (final_item (length (numbers (length (column ∷ columns)))) calls (phase_kinds (column ∷ columns) calls kinds)) (rows (parts i))))
-    = together_both w n (λ i. of_faults (faults (parts i))) (λ i. grouped (key_list (numbers (length (column ∷ columns)))) (final_item (length (numbers (length (column ∷ columns)))) calls (phase_kinds (column ∷ columns) calls kinds)) (rows (parts i))) in
+    let a : sum_by w (together n (λ i. final (numbers (length (column ∷ columns))) calls (phase_kinds (column ∷ columns) calls kinds) (parts i))) ≡ sum_by w (together n (λ i. of_faults (faults (parts i)))) + sum_by w (together n (λ i. grouped (cells_at (numbers (length (column ∷ columns)))) (final_item (length (numbers (length (column ∷ columns)))) calls (phase_kinds (column ∷ columns) calls kinds)) (rows (parts i))))
+    = together_both w n (λ i. of_faults (faults (parts i))) (λ i. grouped (cells_at (numbers (length (column ∷ columns)))) (final_item (length (numbers (length (column ∷ columns)))) calls (phase_kinds (column ∷ columns) calls kinds)) (rows (parts i))) in
     let b : sum_by w (together n (λ i. of_faults (faults (parts i)))) ≡ sum_by w (of_faults (faults input))
     = together_faults w n parts ∙ (bag_faults (together n parts) (flat_map (phase (column ∷ columns) calls kinds) segments) came (λ f. w (Err f)) ∙ (ap (sum_by (λ f. w (Err f))) (faults-phase (column ∷ columns) calls kinds segments) ∙ (bag_faults (concat segments) input same (λ f. w (Err f)) ∙ sym (sum_by-map (λ f. Err f) w (faults input))))) in
-    let c : sum_by w (together n (λ i. grouped (key_list (numbers (length (column ∷ columns)))) (final_item (length (numbers (length (column ∷ columns)))) calls (phase_kinds (column ∷ columns) calls kinds)) (rows (parts i)))) ≡ sum_by w (grouped (key_list (column ∷ columns)) (λ k group. group_item k calls kinds group) (rows input))
+    let c : sum_by w (together n (λ i. grouped (cells_at (numbers (length (column ∷ columns)))) (final_item (length (numbers (length (column ∷ columns)))) calls (phase_kinds (column ∷ columns) calls kinds)) (rows (parts i)))) ≡ sum_by w (grouped (cells_at (column ∷ columns)) (λ k group. group_item k calls kinds group) (rows input))
     = together_groups (numbers (length (column ∷ columns))) n (final_item (length (numbers (length (column ∷ columns)))) calls (phase_kinds (column ∷ columns) calls kinds)) w parts apart ∙ groups_same (column ∷ columns) calls kinds w (map rows segments) (rows input) (rows (together n parts)) (each_pass (are_of kinds) (rows input) good) same_rows came_rows in
-    let d : sum_by w (aggregated (column ∷ columns) calls kinds input) ≡ sum_by w (of_faults (faults input)) + sum_by w (grouped (key_list (column ∷ columns)) (λ k group. group_item k calls kinds group) (rows input))
-    = sum_by-append w (of_faults (faults input)) (grouped (key_list (column ∷ columns)) (λ k group. group_item k calls kinds group) (rows input)) in
+    let d : sum_by w (aggregated (column ∷ columns) calls kinds input) ≡ sum_by w (of_faults (faults input)) + sum_by w (grouped (cells_at (column ∷ columns)) (λ k group. group_item k calls kinds group) (rows input))
+    = sum_by-append w (of_faults (faults input)) (grouped (cells_at (column ∷ columns)) (λ k group. group_item k calls kinds group) (rows input)) in
     omega arith
 
 filter_all : {A : Type 0} (xs : List A) → filter (λ x. true) xs ≡ xs

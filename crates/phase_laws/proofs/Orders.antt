@@ -11,7 +11,8 @@ use Rattle.dfx_value.specs.declared.fault.ItemFault.{ItemFault}
 use Rattle.dfx_value.specs.declared.kind.Kind.{Kind}
 use Rattle.dfx_value.specs.declared.op.AggCall.{AggCall}
 use Rattle.dfx_value.specs.declared.op.AggCall.TheVariants as call
-use Rattle.scalar_exprs.specs.Groups.{key_list, same_keys}
+use Rattle.dfx_value.specs.Rows.{cells_at}
+use Rattle.scalar_exprs.specs.Groups.{same_keys}
 use Rattle.logical_plan.specs.Items.{Cells, Item, rows, faults, of_faults, all_values, as_item}
 use Rattle.phase_laws.specs.States.{state_of, merged, all_merged, read, finished}
 use Rattle.physical_plan.specs.Properties.{state_width}
@@ -22,7 +23,7 @@ use Rattle.content_laws.proofs.Weights.{bag-filter, bag-map, bag_any, sum_by-map
 use Rattle.content_laws.proofs.Items.{bag_rows, bag_faults, together_both, together_faults}
 use Rattle.phase_laws.proofs.Bags.{Each, each_more, each-filter, bag_each, fold_bag}
 use Rattle.phase_laws.proofs.States.{merged_swap}
-use Rattle.phase_laws.proofs.Exact.{cell_fits, key_fits, key_list_fits, keys_exact}
+use Rattle.phase_laws.proofs.Exact.{cell_fits, key_fits, cells_at_fits, keys_exact}
 use Rattle.phase_laws.proofs.Groups.{of_keys, grouped_same}
 use Rattle.phase_laws.proofs.Core.{call_fits, ties_read, step}
 use Rattle.phase_laws.proofs.Items.{each_pass, together_groups}
@@ -64,25 +65,25 @@ item_order : (n : ℕ) (calls : List AggCall) (ks : List Kind) (k : Cells) (xs y
 item_order n calls ks k xs ys h same = ap (λ os. as_item (all_values os >>= λ vs. Ok (k ++ vs))) (answers_order calls (drop n ks) (map (drop n) xs) (map (drop n) ys) (left_fits n ks xs h) (bag-map (drop n) xs ys same))
 
 groups_order : (keys : List ℕ) (n : ℕ) (calls : List AggCall) (ks : List Kind) (w : Item → ℕ) (xs ys : List Cells) → Each (are_of ks) xs → SameBag xs ys
-    → sum_by w (grouped (key_list keys) (final_item n calls ks) xs) ≡ sum_by w (grouped (key_list keys) (final_item n calls ks) ys)
+    → sum_by w (grouped (cells_at keys) (final_item n calls ks) xs) ≡ sum_by w (grouped (cells_at keys) (final_item n calls ks) ys)
 groups_order keys n calls ks w xs ys h same =
-    grouped_same (key_list keys) (key_list keys) (final_item n calls ks) (final_item n calls ks) w (key_fits ks keys) (keys_exact ks keys) xs ys
-    (each_more (are_of ks) (λ r. key_fits ks keys (key_list keys r)) (λ r e. key_list_fits ks keys r e) xs h)
-    (each_more (are_of ks) (λ r. key_fits ks keys (key_list keys r)) (λ r e. key_list_fits ks keys r e) ys (bag_each (are_of ks) xs ys same h))
-    (λ k. ap w (item_order n calls ks k (of_keys (key_list keys) k xs) (of_keys (key_list keys) k ys) (each-filter (are_of ks) (λ r. same_keys k (key_list keys r)) xs h) (bag-filter (λ r. same_keys k (key_list keys r)) xs ys same)))
-    (λ k. bag_any (λ r. same_keys k (key_list keys r)) xs ys same)
+    grouped_same (cells_at keys) (cells_at keys) (final_item n calls ks) (final_item n calls ks) w (key_fits ks keys) (keys_exact ks keys) xs ys
+    (each_more (are_of ks) (λ r. key_fits ks keys (cells_at keys r)) (λ r e. cells_at_fits ks keys r e) xs h)
+    (each_more (are_of ks) (λ r. key_fits ks keys (cells_at keys r)) (λ r e. cells_at_fits ks keys r e) ys (bag_each (are_of ks) xs ys same h))
+    (λ k. ap w (item_order n calls ks k (of_keys (cells_at keys) k xs) (of_keys (cells_at keys) k ys) (each-filter (are_of ks) (λ r. same_keys k (cells_at keys r)) xs h) (bag-filter (λ r. same_keys k (cells_at keys r)) xs ys same)))
+    (λ k. bag_any (λ r. same_keys k (cells_at keys r)) xs ys same)
 
 -- the partitions of the second phase together, from those of its input
 pub final_order : (keys : List ℕ) (calls : List AggCall) (ks : List Kind) (items : List Item) (n : ℕ) (parts : ℕ → List Item) → AllPass (are_of ks) (rows items) → SameBag items (together n parts) → AreApart keys n parts
     → Alike (together n (λ i. final keys calls ks (parts i))) (final keys calls ks items)
 final_order (column ∷ columns) calls ks items n parts good same apart = λ w alike.
-    let a : sum_by w (together n (λ i. final (column ∷ columns) calls ks (parts i))) ≡ sum_by w (together n (λ i. of_faults (faults (parts i)))) + sum_by w (together n (λ i. grouped (key_list (column ∷ columns)) (final_item (length (column ∷ columns)) calls ks) (rows (parts i))))
-    = together_both w n (λ i. of_faults (faults (parts i))) (λ i. grouped (key_list (column ∷ columns)) (final_item (length (column ∷ columns)) calls ks) (rows (parts i))) in
+    let a : sum_by w (together n (λ i. final (column ∷ columns) calls ks (parts i))) ≡ sum_by w (together n (λ i. of_faults (faults (parts i)))) + sum_by w (together n (λ i. grouped (cells_at (column ∷ columns)) (final_item (length (column ∷ columns)) calls ks) (rows (parts i))))
+    = together_both w n (λ i. of_faults (faults (parts i))) (λ i. grouped (cells_at (column ∷ columns)) (final_item (length (column ∷ columns)) calls ks) (rows (parts i))) in
     let b : sum_by w (together n (λ i. of_faults (faults (parts i)))) ≡ sum_by w (of_faults (faults items)) = together_faults w n parts ∙ (sym (bag_faults items (together n parts) same (λ f. w (Err f))) ∙ sym (sum_by-map (λ f. Err f) w (faults items))) in
-    let c : sum_by w (together n (λ i. grouped (key_list (column ∷ columns)) (final_item (length (column ∷ columns)) calls ks) (rows (parts i)))) ≡ sum_by w (grouped (key_list (column ∷ columns)) (final_item (length (column ∷ columns)) calls ks) (rows items))
+    let c : sum_by w (together n (λ i. grouped (cells_at (column ∷ columns)) (final_item (length (column ∷ columns)) calls ks) (rows (parts i)))) ≡ sum_by w (grouped (cells_at (column ∷ columns)) (final_item (length (column ∷ columns)) calls ks) (rows items))
     = together_groups (column ∷ columns) n (final_item (length (column ∷ columns)) calls ks) w parts apart ∙ sym (groups_order (column ∷ columns) (length (column ∷ columns)) calls ks w (rows items) (rows (together n parts)) (each_pass (are_of ks) (rows items) good) (bag_rows items (together n parts) same)) in
-    let d : sum_by w (final (column ∷ columns) calls ks items) ≡ sum_by w (of_faults (faults items)) + sum_by w (grouped (key_list (column ∷ columns)) (final_item (length (column ∷ columns)) calls ks) (rows items))
-    = sum_by-append w (of_faults (faults items)) (grouped (key_list (column ∷ columns)) (final_item (length (column ∷ columns)) calls ks) (rows items)) in
+    let d : sum_by w (final (column ∷ columns) calls ks items) ≡ sum_by w (of_faults (faults items)) + sum_by w (grouped (cells_at (column ∷ columns)) (final_item (length (column ∷ columns)) calls ks) (rows items))
+    = sum_by-append w (of_faults (faults items)) (grouped (cells_at (column ∷ columns)) (final_item (length (column ∷ columns)) calls ks) (rows items)) in
     omega arith
 final_order [] calls ks items n parts good same apart = λ w alike.
     let P : ℕ → Type 0 = λ m. SameBag items (together m parts) in

@@ -3,7 +3,7 @@ use Rattle.std.proofs.Common.{ℕ, ◌^◌, ◌≡◌, refl, sym, subst, cond, l
 use Rattle.std.specs.Prelude.{slice_get}
 use Rattle.std.specs.List.{filter, AllPass}
 use Rattle.std.proofs.lemmas.Bool.{true≢false, and_from, eq-eqb}
-use Rattle.dfx_value.specs.Rows.{cell}
+use Rattle.dfx_value.specs.Rows.{cell, cells_at}
 use Rattle.dfx_value.specs.Kinds.{is_of, are_of}
 use Rattle.dfx_value.specs.declared.kind.Kind.{Kind}
 use Rattle.dfx_value.specs.declared.kind.Kind.TheVariants as kind
@@ -13,7 +13,7 @@ use Rattle.dfx_value.specs.declared.op.AggCall.{AggCall}
 use Rattle.dfx_value.specs.declared.op.AggCall.TheVariants as call
 use Rattle.scalar_exprs.specs.Kinds.{argument_kind, scale_of}
 use Rattle.scalar_exprs.specs.Agg.{argument, present, gains, losses, least, greatest}
-use Rattle.scalar_exprs.specs.Groups.{key_list, firsts}
+use Rattle.scalar_exprs.specs.Groups.{firsts}
 use Rattle.logical_plan.specs.Body.{kind_or_text, key_kinds}
 use Rattle.logical_plan.specs.Items.{Cells, Item, rows, faults}
 use Rattle.phase_laws.specs.States.{Totals, state_of, capped, past, within, cells_of, count_cells, sum_cells}
@@ -72,17 +72,17 @@ states_fit : (calls : List AggCall) (kinds : List Kind) (group : List Cells) →
 states_fit [] kinds group g = refl
 states_fit (c ∷ calls) kinds group g = state_fits c kinds group (states_kinds calls kinds) (states_of calls kinds group) g (states_fit calls kinds group g)
 
-row_fits : (columns : List ℕ) (kinds ks : List Kind) (row vs : Cells) → are_of kinds row ≡ true → are_of ks vs ≡ true → are_of (key_kinds kinds columns ++ ks) (key_list columns row ++ vs) ≡ true
+row_fits : (columns : List ℕ) (kinds ks : List Kind) (row vs : Cells) → are_of kinds row ≡ true → are_of ks vs ≡ true → are_of (key_kinds kinds columns ++ ks) (cells_at columns row ++ vs) ≡ true
 row_fits [] kinds ks row vs g h = h
 row_fits (c ∷ cs) kinds ks row vs g h = and_from _ _ (text_of (slice_get kinds c) (cell row c) (cell_fits kinds row c g)) (row_fits cs kinds ks row vs g h)
 
 rows_fit : (columns : List ℕ) (calls : List AggCall) (kinds : List Kind) (segment rest : List Cells) → Each (are_of kinds) segment → Each (are_of kinds) rest
-    → Each (are_of (phase_kinds columns calls kinds)) (map (λ r. phase_row calls kinds (key_list columns r) (filter (like (key_list columns) r) segment)) rest)
+    → Each (are_of (phase_kinds columns calls kinds)) (map (λ r. phase_row calls kinds (cells_at columns r) (filter (like (cells_at columns) r) segment)) rest)
 rows_fit columns calls kinds segment [] g h = tt
-rows_fit columns calls kinds segment (r ∷ rs) g h = (row_fits columns kinds (states_kinds calls kinds) r (states_of calls kinds (filter (like (key_list columns) r) segment)) h.0 (states_fit calls kinds (filter (like (key_list columns) r) segment) (each-filter (are_of kinds) (like (key_list columns) r) segment g)), rows_fit columns calls kinds segment rs g h.1)
+rows_fit columns calls kinds segment (r ∷ rs) g h = (row_fits columns kinds (states_kinds calls kinds) r (states_of calls kinds (filter (like (cells_at columns) r) segment)) h.0 (states_fit calls kinds (filter (like (cells_at columns) r) segment) (each-filter (are_of kinds) (like (cells_at columns) r) segment g)), rows_fit columns calls kinds segment rs g h.1)
 
 pub phase_fits : (columns : List ℕ) (calls : List AggCall) (kinds : List Kind) (segment : List Item) → AllPass (are_of kinds) (rows segment) → AllPass (are_of (phase_kinds columns calls kinds)) (rows (phase columns calls kinds segment))
 phase_fits columns calls kinds segment good =
     let g : Each (are_of kinds) (rows segment) = each_pass (are_of kinds) (rows segment) good in
     subst (AllPass (are_of (phase_kinds columns calls kinds))) (sym (rows_both (faults segment) (phase_rows columns calls kinds (rows segment))))
-    (all_from (are_of (phase_kinds columns calls kinds)) (phase_rows columns calls kinds (rows segment)) (rows_fit columns calls kinds (rows segment) (firsts (like (key_list columns)) (rows segment)) g (each-firsts (are_of kinds) (like (key_list columns)) (rows segment) g)))
+    (all_from (are_of (phase_kinds columns calls kinds)) (phase_rows columns calls kinds (rows segment)) (rows_fit columns calls kinds (rows segment) (firsts (like (cells_at columns)) (rows segment)) g (each-firsts (are_of kinds) (like (cells_at columns)) (rows segment) g)))

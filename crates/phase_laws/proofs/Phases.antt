@@ -5,13 +5,13 @@ use Rattle.std.specs.List.{sum_by, filter, list_any, flat_map}
 use Rattle.std.proofs.lemmas.List.Folds.{list_any-append}
 use Rattle.std.proofs.lemmas.List.Elements.{filter-append}
 use Rattle.dfx_value.specs.Checked.{◌>>=◌}
-use Rattle.dfx_value.specs.Rows.{cell}
+use Rattle.dfx_value.specs.Rows.{cell, cells_at}
 use Rattle.dfx_value.specs.Kinds.{are_of}
 use Rattle.dfx_value.specs.declared.kind.Kind.{Kind}
 use Rattle.dfx_value.specs.declared.value.Value.{Value}
 use Rattle.dfx_value.specs.declared.op.AggCall.{AggCall}
 use Rattle.scalar_exprs.specs.Agg.{agg_rows}
-use Rattle.scalar_exprs.specs.Groups.{key_list, same_keys, firsts}
+use Rattle.scalar_exprs.specs.Groups.{same_keys, firsts}
 use Rattle.logical_plan.specs.Items.{Cells, Item, all_values, as_item, concat}
 use Rattle.logical_plan.specs.Body.{kind_or_text}
 use Rattle.logical_plan.specs.Groups.{group_item}
@@ -21,7 +21,7 @@ use Rattle.content_laws.specs.Bags.{SameBag}
 use Rattle.phase_laws.proofs.Bags.{Each, each_more, each-append, each_left, each_right, each-filter, bag_each}
 use Rattle.content_laws.proofs.Weights.{bag-filter, bag-map, bag_any}
 use Rattle.phase_laws.proofs.Firsts.{any-firsts}
-use Rattle.phase_laws.proofs.Exact.{key_fits, key_list_fits, keys_exact}
+use Rattle.phase_laws.proofs.Exact.{key_fits, cells_at_fits, keys_exact}
 use Rattle.key_laws.proofs.Found.{same_keys_laws}
 use Rattle.phase_laws.proofs.Groups.{of_keys, like, any-map, grouped_same, each-firsts}
 use Rattle.phase_laws.proofs.Core.{piece, map-append, EachOf, answers_are, agg_order}
@@ -85,7 +85,7 @@ shift x xs at (suc n) =
     let e : suc at + 1 ≡ suc (at + 1) = omega arith in
     ap (λ zs. cell xs at ∷ zs) (ap (λ i. map (cell (x ∷ xs)) (numbers_from i n)) e ∙ shift x xs (at + 1) n)
 
-pub all_columns : (row more : Cells) → key_list (numbers (length row)) (row ++ more) ≡ row
+pub all_columns : (row more : Cells) → cells_at (numbers (length row)) (row ++ more) ≡ row
 all_columns [] more = refl
 all_columns (x ∷ xs) more = ap (λ zs. x ∷ zs) (shift x (xs ++ more) 0 (length xs) ∙ all_columns xs more)
 
@@ -97,8 +97,8 @@ pub length-numbers_from : (at n : ℕ) → length (numbers_from at n) ≡ n
 length-numbers_from at zero = refl
 length-numbers_from at (suc n) = ap suc (length-numbers_from (at + 1) n)
 
-take_front : (columns : List ℕ) (row more : Cells) → key_list (numbers (length columns)) (key_list columns row ++ more) ≡ key_list columns row
-take_front columns row more = ap (λ n. key_list (numbers n) (key_list columns row ++ more)) (sym (length-map (cell row) columns)) ∙ all_columns (key_list columns row) more
+take_front : (columns : List ℕ) (row more : Cells) → cells_at (numbers (length columns)) (cells_at columns row ++ more) ≡ cells_at columns row
+take_front columns row more = ap (λ n. cells_at (numbers n) (cells_at columns row ++ more)) (sym (length-map (cell row) columns)) ∙ all_columns (cells_at columns row) more
 
 drop_all : {A : Type 0} (xs ys : List A) → drop (length xs) (xs ++ ys) ≡ ys
 drop_all [] ys = refl
@@ -109,10 +109,10 @@ drop_front columns h more = ap (λ n. drop n (map h columns ++ more)) (length-nu
 
 module _ (columns : List ℕ) (calls : List AggCall) (kinds : List Kind) where
   abbrev pub key : Cells → Cells
-  key = key_list columns
+  key = cells_at columns
 
   abbrev pub behind : Cells → Cells
-  behind = key_list (numbers (length columns))
+  behind = cells_at (numbers (length columns))
 
   abbrev pub row_of : List Cells → Cells → Cells
   row_of segment r = phase_row calls kinds (key r) (filter (like key r) segment)
@@ -169,7 +169,7 @@ module _ (columns : List ℕ) (calls : List AggCall) (kinds : List Kind) where
 
   keys_fit_one : (segment rest : List Cells) → Each (are_of kinds) rest → Each (λ s. key_fits kinds columns (behind s)) (map (row_of segment) rest)
   keys_fit_one segment [] h = tt
-  keys_fit_one segment (r ∷ rs) h = (ap (key_fits kinds columns) (take_front columns r (states_of calls kinds (filter (like key r) segment))) ∙ key_list_fits kinds columns r h.0, keys_fit_one segment rs h.1)
+  keys_fit_one segment (r ∷ rs) h = (ap (key_fits kinds columns) (take_front columns r (states_of calls kinds (filter (like key r) segment))) ∙ cells_at_fits kinds columns r h.0, keys_fit_one segment rs h.1)
 
   keys_fit : (segments : List (List Cells)) → Each (are_of kinds) (concat segments) → Each (λ s. key_fits kinds columns (behind s)) (flat_map (phase_rows columns calls kinds) segments)
   keys_fit [] h = tt
@@ -210,6 +210,6 @@ module _ (columns : List ℕ) (calls : List AggCall) (kinds : List Kind) where
   groups_same w segments input firsts_in h same came =
       grouped_same behind key (final_item (length (numbers (length columns))) calls (phase_kinds columns calls kinds)) (λ k group. group_item k calls kinds group) w (key_fits kinds columns) (keys_exact kinds columns) firsts_in input
       (bag_each (λ s. key_fits kinds columns (behind s)) (flat_map (phase_rows columns calls kinds) segments) firsts_in came (keys_fit segments (bag_each (are_of kinds) input (concat segments) (λ w. sym (same w)) h)))
-      (each_more (are_of kinds) (λ r. key_fits kinds columns (key r)) (λ r e. key_list_fits kinds columns r e) input h)
+      (each_more (are_of kinds) (λ r. key_fits kinds columns (key r)) (λ r e. cells_at_fits kinds columns r e) input h)
       (λ k. ap w (core_item k segments input firsts_in h same came))
       (λ k. sym (bag_any (λ s. same_keys k (behind s)) (flat_map (phase_rows columns calls kinds) segments) firsts_in came) ∙ (keys_any k segments ∙ bag_any (λ r. same_keys k (key r)) (concat segments) input same))

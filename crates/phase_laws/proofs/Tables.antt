@@ -9,8 +9,9 @@ use Rattle.std.proofs.lemmas.List.Elements.{filter-append}
 use Rattle.dfx_value.specs.Checked.{◌>>=◌}
 use Rattle.dfx_value.specs.declared.kind.Kind.{Kind}
 use Rattle.dfx_value.specs.declared.op.AggCall.{AggCall}
+use Rattle.dfx_value.specs.Rows.{cells_at}
 use Rattle.scalar_exprs.specs.Agg.{argument}
-use Rattle.scalar_exprs.specs.Groups.{same_keys, key_list, firsts}
+use Rattle.scalar_exprs.specs.Groups.{same_keys, firsts}
 use Rattle.scalar_exprs.specs.Kinds.{argument_kind}
 use Rattle.logical_plan.specs.Items.{Cells, all_values, as_item}
 use Rattle.phase_laws.specs.States.{State, state_of, merged, read, cells_of, finished}
@@ -192,8 +193,8 @@ cells_are (c ∷ calls) kinds g =
     ∙ (ap (λ s. cells_of c (argument_kind c kinds) s ++ all_cells calls kinds (fold (with_row calls) (starts calls) g)) (fold_rows c [] g)
     ∙ ap (λ vs. cells_of c (argument_kind c kinds) (state_of c (map (argument c) g)) ++ vs) (cells_are calls kinds g))
 
-pub first_table : (columns : List ℕ) (calls : List AggCall) (kinds : List Kind) (rows : List Cells) → map (λ (e : Cells × List State). e.0 ++ all_cells calls kinds e.1) (table (key_list columns) (starts calls) (with_row calls) rows) ≡ phase_rows columns calls kinds rows
-first_table columns calls kinds rows = from_table (key_list columns) (starts calls) (with_row calls) (λ e. e.0 ++ all_cells calls kinds e.1) (phase_row calls kinds) (λ k g. ap (λ vs. k ++ vs) (cells_are calls kinds g)) rows
+pub first_table : (columns : List ℕ) (calls : List AggCall) (kinds : List Kind) (rows : List Cells) → map (λ (e : Cells × List State). e.0 ++ all_cells calls kinds e.1) (table (cells_at columns) (starts calls) (with_row calls) rows) ≡ phase_rows columns calls kinds rows
+first_table columns calls kinds rows = from_table (cells_at columns) (starts calls) (with_row calls) (λ e. e.0 ++ all_cells calls kinds e.1) (phase_row calls kinds) (λ k g. ap (λ vs. k ++ vs) (cells_are calls kinds g)) rows
 
 -- ---- the second phase
 
@@ -212,5 +213,5 @@ pub one_finished : (n : ℕ) (calls : List AggCall) (kinds : List Kind) (k : Cel
 one_finished n calls kinds k g = ap (λ os. as_item (all_values os >>= λ vs. Ok (k ++ vs))) (ap (all_finished calls (drop n kinds)) (sym (fold-map (with_cells calls) (drop n) (starts calls) g)) ∙ finished_are calls (drop n kinds) (map (drop n) g))
 
 pub second_table : (keys : List ℕ) (n : ℕ) (calls : List AggCall) (kinds : List Kind) (rows : List Cells)
-    → map (finished_item n calls kinds) (table (key_list keys) (starts calls) (λ ss row. with_cells calls ss (drop n row)) rows) ≡ grouped (key_list keys) (final_item n calls kinds) rows
-second_table keys n calls kinds rows = from_table (key_list keys) (starts calls) (λ ss row. with_cells calls ss (drop n row)) (finished_item n calls kinds) (final_item n calls kinds) (one_finished n calls kinds) rows
+    → map (finished_item n calls kinds) (table (cells_at keys) (starts calls) (λ ss row. with_cells calls ss (drop n row)) rows) ≡ grouped (cells_at keys) (final_item n calls kinds) rows
+second_table keys n calls kinds rows = from_table (cells_at keys) (starts calls) (λ ss row. with_cells calls ss (drop n row)) (finished_item n calls kinds) (final_item n calls kinds) (one_finished n calls kinds) rows

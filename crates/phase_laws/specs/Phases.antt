@@ -7,10 +7,11 @@ use Rattle.dfx_value.specs.declared.fault.ItemFault.{ItemFault}
 use Rattle.dfx_value.specs.declared.kind.Kind.{Kind}
 use Rattle.dfx_value.specs.declared.op.AggCall.{AggCall}
 use Rattle.dfx_value.specs.declared.op.AggCall.TheVariants as call
+use Rattle.dfx_value.specs.Rows.{cells_at}
 use Rattle.scalar_exprs.specs.Functions.{Outcome}
 use Rattle.scalar_exprs.specs.Agg.{argument}
 use Rattle.scalar_exprs.specs.Kinds.{argument_kind}
-use Rattle.scalar_exprs.specs.Groups.{key_list, same_keys, firsts}
+use Rattle.scalar_exprs.specs.Groups.{same_keys, firsts}
 use Rattle.logical_plan.specs.Groups.{alike}
 use Rattle.logical_plan.specs.Items.{Cells, Item, rows, faults, of_rows, of_faults, all_values, as_item, concat}
 use Rattle.physical_plan.specs.Numbers.{numbers}
@@ -38,7 +39,7 @@ phase_row calls kinds keys group = keys ++ states_of calls kinds group
 
 -- of a segment: every fault, and for each list of keys a row of it and of the states
 abbrev pub phase_rows : List ℕ → List AggCall → List Kind → List Cells → List Cells
-phase_rows columns calls kinds = grouped (key_list columns) (phase_row calls kinds)
+phase_rows columns calls kinds = grouped (cells_at columns) (phase_row calls kinds)
 
 abbrev pub phase : List ℕ → List AggCall → List Kind → List Item → List Item
 phase columns calls kinds items =
@@ -77,7 +78,7 @@ abbrev pub final : List ℕ → List AggCall → List Kind → List Item → Lis
 final [] calls kinds items = one_final calls kinds (rows items) (faults items) ∷ []
 final (column ∷ columns) calls kinds items =
     of_faults (faults items)
-    ++ grouped (key_list (column ∷ columns)) (final_item (length (column ∷ columns)) calls kinds) (rows items)
+    ++ grouped (cells_at (column ∷ columns)) (final_item (length (column ∷ columns)) calls kinds) (rows items)
 
 -- the second phase over rows of the first, of groups by these columns of rows of these kinds
 abbrev pub second_phase : List ℕ → List AggCall → List Kind → List Item → List Item

@@ -9,8 +9,8 @@ ghost use Rattle.dfx_value.specs.declared.op.AggCall.{AggCall};
 ghost use Rattle.logical_plan.specs.Items.{Item, Cells, rows, faults, of_rows, concat};
 ghost use Rattle.logical_plan.specs.Groups.{aggregated, distinct};
 ghost use Rattle.dfx_value.specs.declared.value.Value.{Value};
+ghost use Rattle.dfx_value.specs.Rows.{cells_at};
 ghost use Rattle.scalar_exprs.specs.Agg.{agg};
-ghost use Rattle.scalar_exprs.specs.Groups.{key_list};
 ghost use Rattle.phase_laws.specs.States.{State, state_of, merged, read, cells_of, finished};
 ghost use Rattle.phase_laws.specs.Tables.{table, starts, with_row, state_row, with_cells_behind, finished_item};
 ghost use Rattle.phase_laws.specs.Phases.{phase_rows, grouped, final_item, phase, phase_kinds, final, second_phase, AreApart, segments_of};
@@ -110,13 +110,13 @@ pub fn tables_law()
     ensures first { (columns : List ℕ) (calls : List AggCall) (kinds : List Kind)
         (rows : List Cells)
         → map (state_row calls kinds)
-        (table (key_list columns) (starts calls) (with_row calls) rows)
+        (table (cells_at columns) (starts calls) (with_row calls) rows)
         ≡ phase_rows columns calls kinds rows }
     ensures second { (keys : List ℕ) (n : ℕ) (calls : List AggCall) (kinds : List Kind)
         (rows : List Cells)
         → map (finished_item n calls kinds)
-        (table (key_list keys) (starts calls) (with_cells_behind n calls) rows)
-        ≡ grouped (key_list keys) (final_item n calls kinds) rows }
+        (table (cells_at keys) (starts calls) (with_cells_behind n calls) rows)
+        ≡ grouped (cells_at keys) (final_item n calls kinds) rows }
     ensures one { (n : ℕ) (calls : List AggCall) (kinds : List Kind) (keys : Cells)
         (rows : List Cells)
         → finished_item n calls kinds (keys, fold (with_cells_behind n calls) (starts calls) rows)

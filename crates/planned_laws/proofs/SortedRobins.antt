@@ -1,6 +1,7 @@
 -- Sorts move no exchange.
 use Rattle.std.proofs.Common.{◌≡◌, refl, sym, ap, ◌∙◌, subst, cond, Bool, true, false, List, [], ◌∷◌, ◌++◌, map}
 use Rattle.std.proofs.lemmas.Bool.{false≢true}
+use Rattle.dfx_value.specs.Items.{concat}
 use Rattle.dfx_value.specs.declared.rows.SortKey.{SortKey}
 use Rattle.plan_props.specs.Satisfies.{satisfies_order}
 use Rattle.plan_props.specs.declared.properties.Partitioning.{Partitioning}
@@ -13,7 +14,7 @@ use Rattle.physical_plan.specs.declared.plan.Plan.TheVariants.{Scan, Sort, rolls
 use Rattle.physical_plan.specs.Properties.{props}
 use Rattle.enforce_sort.specs.Arrange.{with_sort, enforce_sorting}
 use Rattle.physical_plan.specs.Everywhere.{everywhere, all_true}
-use Rattle.planned_laws.specs.Finished.{on_scan, on_scans, robin_on, is_robin, concat, Wanting, found}
+use Rattle.planned_laws.specs.Finished.{on_scan, on_scans, robin_on, is_robin, Wanting, found}
 use Rattle.enforce_sort.proofs.Nodes.{arranged-Scan, arranged-Filter, arranged-Project, arranged-PartialGroup, arranged-FinalGroup, arranged-HashJoin, arranged-Sort, arranged-Merge, arranged-Coalesce, arranged-Repartition, arranged-UnionAll, arranged-Limit}
 use Rattle.physical_plan.proofs.Everywhere.{and_parts, parts-Filter, parts-Project, parts-PartialGroup, parts-FinalGroup, parts-HashJoin, parts-Sort, parts-Merge, parts-Coalesce, parts-Repartition, parts-UnionAll, parts-Limit}
 use Rattle.planned_laws.proofs.Wantings.{found-Filter, found-Project, found-PartialGroup, found-FinalGroup, found-HashJoin, found-Sort, found-Merge, found-Coalesce, found-Repartition, found-UnionAll, found-Limit}

@@ -2,6 +2,7 @@
 use Rattle.std.specs.Prelude.{nat_lt}
 use Rattle.std.proofs.Common.{ℕ, ◌≡◌, ◌≢◌, ◌+◌, refl, sym, ap, ◌∙◌, subst, cond, eqb, Bool, true, false, ◌&&◌, List, [], ◌∷◌, ◌++◌, map}
 use Rattle.std.proofs.lemmas.Bool.{false≢true}
+use Rattle.dfx_value.specs.Items.{concat}
 use Rattle.dfx_value.specs.declared.rows.SortKey.{SortKey}
 use Rattle.plan_props.specs.Satisfies.{satisfies_distribution}
 use Rattle.plan_props.specs.declared.properties.Partitioning.TheVariants as parting
@@ -15,7 +16,7 @@ use Rattle.physical_plan.specs.declared.plan.Plan.TheVariants.{Scan, Repartition
 use Rattle.physical_plan.specs.Properties.{props, partitions, left_keys, right_keys}
 use Rattle.enforce_dist.specs.Distribute.{Below, gathered, gathered_by, hashed, grouped_input, join_input, spread, distributed}
 use Rattle.physical_plan.specs.Everywhere.{everywhere, all_true}
-use Rattle.planned_laws.specs.Finished.{concat, Wanting, wanted, found}
+use Rattle.planned_laws.specs.Finished.{Wanting, wanted, found}
 use Rattle.enforce_dist.proofs.Nodes.{distributed-Scan, distributed-Filter, distributed-Project, distributed-PartialGroup, distributed-FinalGroup, distributed-HashJoin, distributed-Sort, distributed-Merge, distributed-Coalesce, distributed-UnionAll, distributed-Limit}
 use Rattle.physical_plan.proofs.Everywhere.{and_parts, parts-Filter, parts-Project, parts-PartialGroup, parts-FinalGroup, parts-HashJoin, parts-Sort, parts-Merge, parts-Coalesce, parts-Repartition, parts-UnionAll, parts-Limit}
 use Rattle.planned_laws.proofs.Wantings.{wanted-Scan, wanted-Filter, wanted-Project, wanted-PartialGroup, wanted-FinalGroup, wanted-HashJoin, wanted-Sort, wanted-Merge, wanted-Coalesce, wanted-UnionAll, wanted-Limit, found-Scan, found-Filter, found-Project, found-PartialGroup, found-FinalGroup, found-HashJoin, found-Sort, found-Merge, found-Coalesce, found-Repartition, found-UnionAll, found-Limit}

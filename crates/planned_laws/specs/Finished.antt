@@ -1,5 +1,6 @@
 -- Meaning: what a finished plan is.
 use Rattle.std.specs.Prelude.{ℕ, ◌≡◌, ◌==◌, Bool, true, false, not, ◌&&◌, nat_lt, List, [], ◌∷◌, ◌++◌, map}
+use Rattle.dfx_value.specs.Items.{concat}
 use Rattle.dfx_value.specs.declared.rows.SortKey.{SortKey}
 use Rattle.plan_props.specs.declared.properties.Partitioning.{Partitioning}
 use Rattle.plan_props.specs.declared.properties.Partitioning.TheVariants as parting
@@ -104,10 +105,6 @@ robin_on _ p = true
 abbrev pub on_scans : Test
 on_scans (Plan-F.Repartition input to) = robin_on to input
 on_scans _ = true
-
-abbrev pub concat : List (List Bool) → List Bool
-concat [] = []
-concat (xs ∷ ys) = xs ++ concat ys
 
 -- for each scan, left to right: whether it is to be spread
 abbrev pub Wanting : Type 0

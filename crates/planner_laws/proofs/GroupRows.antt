@@ -8,7 +8,7 @@ use Rattle.std.proofs.lemmas.Bool.{false≢true}
 use Rattle.std.proofs.lemmas.List.{length-append}
 use Rattle.std.proofs.lemmas.List.Sums.{sum_by_from}
 use Rattle.dfx_value.specs.Checked.{◌>>=◌}
-use Rattle.dfx_value.specs.Rows.{cell}
+use Rattle.dfx_value.specs.Rows.{cell, cells_at}
 use Rattle.dfx_value.specs.declared.fault.EvalFault.{EvalFault}
 use Rattle.dfx_value.specs.declared.fault.ItemFault.{ItemFault}
 use Rattle.dfx_value.specs.declared.kind.Kind.{Kind}
@@ -22,7 +22,7 @@ use Rattle.physical_plan.specs.Properties.{state_width}
 use Rattle.scalar_exprs.specs.Functions.{Outcome}
 use Rattle.scalar_exprs.specs.Agg.{argument}
 use Rattle.scalar_exprs.specs.Kinds.{argument_kind}
-use Rattle.scalar_exprs.specs.Groups.{key_list, same_keys, firsts}
+use Rattle.scalar_exprs.specs.Groups.{same_keys, firsts}
 use Rattle.logical_plan.specs.Items.{Cells, Item, rows, faults, all_values, as_item}
 use Rattle.plan_task_laws.proofs.Branches.{map_length}
 use Rattle.node_laws.specs.Nodes.{IsWide}
@@ -109,18 +109,18 @@ states_long (c ∷ calls) kinds group =
     ∙ sym (sum_front (state_width c) (map state_width calls))
 
 abbrev like_by : List ℕ → Cells → Cells → Bool
-like_by columns r s = same_keys (key_list columns r) (key_list columns s)
+like_by columns r s = same_keys (cells_at columns r) (cells_at columns s)
 
 phase_from : (g : Grouping) (xs : List Item) → Each (GroupRow g.columns (rows xs)) (rows (the_phases.first g xs))
 phase_from g xs = subst (Each (GroupRow g.columns (rows xs))) (sym (rows_both (faults xs) (phase_rows g.columns g.calls g.kinds (rows xs))))
-    (each_mapped (GroupRow g.columns (rows xs)) (λ r. phase_row g.calls g.kinds (key_list g.columns r) (filter (like_by g.columns r) (rows xs))) (firsts (like_by g.columns) (rows xs))
+    (each_mapped (GroupRow g.columns (rows xs)) (λ r. phase_row g.calls g.kinds (cells_at g.columns r) (filter (like_by g.columns r) (rows xs))) (firsts (like_by g.columns) (rows xs))
     (λ r i. (r, states_of g.calls g.kinds (filter (like_by g.columns r) (rows xs)), first_holds (like_by g.columns) (rows xs) r i, refl)))
 
 phase_wide : (g : Grouping) (xs : List Item) → Each (IsWide (length g.columns + sum (map state_width g.calls))) (rows (the_phases.first g xs))
 phase_wide g xs = subst (Each (IsWide (length g.columns + sum (map state_width g.calls)))) (sym (rows_both (faults xs) (phase_rows g.columns g.calls g.kinds (rows xs))))
-    (each_mapped (IsWide (length g.columns + sum (map state_width g.calls))) (λ r. phase_row g.calls g.kinds (key_list g.columns r) (filter (like_by g.columns r) (rows xs))) (firsts (like_by g.columns) (rows xs))
+    (each_mapped (IsWide (length g.columns + sum (map state_width g.calls))) (λ r. phase_row g.calls g.kinds (cells_at g.columns r) (filter (like_by g.columns r) (rows xs))) (firsts (like_by g.columns) (rows xs))
     (λ r i. (let more = states_of g.calls g.kinds (filter (like_by g.columns r) (rows xs)) in
-    length-append (key_list g.columns r) more ∙ ap (λ (n : ℕ). n + length more) (map_length (cell r) g.columns) ∙ ap (λ (n : ℕ). length g.columns + n) (states_long g.calls g.kinds (filter (like_by g.columns r) (rows xs))))))
+    length-append (cells_at g.columns r) more ∙ ap (λ (n : ℕ). n + length more) (map_length (cell r) g.columns) ∙ ap (λ (n : ℕ). length g.columns + n) (states_long g.calls g.kinds (filter (like_by g.columns r) (rows xs))))))
 
 -- ------------------------------------------------------------ the second phase
 
@@ -173,7 +173,7 @@ equal_same [] (y ∷ ys) h = absurd h
 equal_same (x ∷ xs) [] h = absurd h
 equal_same (x ∷ xs) (y ∷ ys) h = ap (λ (o : Ordering). is_eq o && same_keys xs ys) h.0 ∙ equal_same xs ys h.1
 
-front : (ks : List ℕ) (r vs : Cells) → take (length ks) (key_list ks r ++ vs) ≡ key_list ks r
+front : (ks : List ℕ) (r vs : Cells) → take (length ks) (cells_at ks r ++ vs) ≡ cells_at ks r
 front [] r vs = refl
 front (k ∷ ks) r vs = ap (λ xs. cell r k ∷ xs) (front ks r vs)
 
@@ -182,25 +182,25 @@ module _ (ks : List ℕ) (calls : List AggCall) (kinds : List Kind) (all : List 
   group r = filter (like_by ks r) all
 
   abbrev item : Cells → Item
-  item r = final_item (length ks) calls kinds (key_list ks r) (group r)
+  item r = final_item (length ks) calls kinds (cells_at ks r) (group r)
 
   abbrev these : Cells → List Outcome
   these r = answers calls (drop (length ks) kinds) (map (drop (length ks)) (group r))
 
-  final_row : (rs : List Cells) (s : Cells) → Holds (rows (map item rs)) s → (r : Cells) × (vs : Cells) × Holds rs r × (s ≡ key_list ks r ++ vs) × (length vs ≡ length calls)
+  final_row : (rs : List Cells) (s : Cells) → Holds (rows (map item rs)) s → (r : Cells) × (vs : Cells) × Holds rs r × (s ≡ cells_at ks r ++ vs) × (length vs ≡ length calls)
   final_row rs s i =
       let m = mapped_row item rs s i in
-      let v = item_row (key_list ks m.0) (all_values (these m.0)) s m.2 in
+      let v = item_row (cells_at ks m.0) (all_values (these m.0)) s m.2 in
       (m.0, v.0, m.1, v.2, values_long (these m.0) v.0 v.1 ∙ answers_long calls (drop (length ks) kinds) (map (drop (length ks)) (group m.0)))
 
   row_apart : (r : Cells) (rs : List Cells) → ((q : Cells) → Holds rs q → like_by ks r q ≡ true → ⊥) → (s : Cells) → Holds (rows (item r ∷ [])) s → Each (Differ (length ks) s) (rows (map item rs))
   row_apart r rs never s i =
-      let v = item_row (key_list ks r) (all_values (these r)) s i in
+      let v = item_row (cells_at ks r) (all_values (these r)) s i in
       each_by (Differ (length ks) s) (rows (map item rs)) (λ t j e. (
       let m = final_row rs t j in
-      let a : take (length ks) s ≡ key_list ks r = ap (take (length ks)) v.2 ∙ front ks r v.0 in
-      let b : take (length ks) t ≡ key_list ks m.0 = ap (take (length ks)) m.3 ∙ front ks m.0 m.1 in
-      never m.0 m.2 (equal_same (key_list ks r) (key_list ks m.0) (subst (λ x. AllEqual x (key_list ks m.0)) a (subst (AllEqual (take (length ks) s)) b e)))))
+      let a : take (length ks) s ≡ cells_at ks r = ap (take (length ks)) v.2 ∙ front ks r v.0 in
+      let b : take (length ks) t ≡ cells_at ks m.0 = ap (take (length ks)) m.3 ∙ front ks m.0 m.1 in
+      never m.0 m.2 (equal_same (cells_at ks r) (cells_at ks m.0) (subst (λ x. AllEqual x (cells_at ks m.0)) a (subst (AllEqual (take (length ks) s)) b e)))))
 
   consed : (x : Item) (xs : List Item) → ((s : Cells) → Holds (rows (x ∷ [])) s → Each (Differ (length ks) s) (rows xs)) → AllDiffer (length ks) (rows xs) → AllDiffer (length ks) (rows (x ∷ xs))
   consed (Ok r) xs h d = (h r (inl refl), d)
@@ -240,7 +240,7 @@ second_wide (k ∷ ks) calls kinds xs = each_by (IsWide (length (k ∷ ks) + len
     let fs = firsts (like_by (k ∷ ks)) (rows xs) in
     let j = subst (λ rs. Holds rs s) (no_rows (faults xs) (map (item (k ∷ ks) calls kinds (rows xs)) fs)) i in
     let m = final_row (k ∷ ks) calls kinds (rows xs) fs s j in
-    ap length m.3 ∙ length-append (key_list (k ∷ ks) m.0) m.1 ∙ ap (λ (n : ℕ). n + length m.1) (map_length (cell m.0) (k ∷ ks)) ∙ ap (λ (n : ℕ). length (k ∷ ks) + n) m.4))
+    ap length m.3 ∙ length-append (cells_at (k ∷ ks) m.0) m.1 ∙ ap (λ (n : ℕ). n + length m.1) (map_length (cell m.0) (k ∷ ks)) ∙ ap (λ (n : ℕ). length (k ∷ ks) + n) m.4))
 
 pub groups : AreGroups the_phases
 groups = record {
