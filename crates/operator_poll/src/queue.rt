@@ -138,7 +138,8 @@ fn take_rows(
 ) -> Result<Option<Batch>, NoMemory>
     requires some { 0 < most }
     requires parts { All (IsPart kinds.now) batches.old.items }
-    ensures rows { IfOk result (λ given. given_rows given ≡ take most (all_rows batches.old.items)) }
+    ensures rows { IfOk result
+        (λ given. given_rows given ≡ take most (all_rows batches.old.items)) }
     ensures rest { OnOk result (all_rows batches.new.items
         ≡ drop most (all_rows batches.old.items)) }
     ensures part { IfOk result (λ given. IfSome given (IsPart kinds.now)) }

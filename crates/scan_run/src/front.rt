@@ -80,7 +80,8 @@ fn push_expr(
     made: &mut Projected,
 ) -> Result<bool, NoMemory>
     requires kinds { kinds.now ≡ batch.now.kinds }
-    ensures { (exprs : List Expression) → result ≡ Ok true → IsProjection exprs batch.now.rows made.old
+    ensures { (exprs : List Expression) → result ≡ Ok true
+        → IsProjection exprs batch.now.rows made.old
         → IsProjection (exprs ++ expr.now ∷ []) batch.now.rows made.new }
 {
     let _ = batch.rows();
