@@ -13,7 +13,7 @@ use Rattle.csv.proofs.WriteFacts.{escaped-double, escaped-other, quoted-step, ro
 use Rattle.dfx_value.specs.Print.{printed}
 use Rattle.dfx_value.specs.Rows.{cell}
 use Rattle.dfx_value.specs.declared.value.Value.{Value as Cell}
-use Rattle.dfx_value.proofs.FrontLemmas.{starts_after}
+use Rattle.dfx_value.proofs.FrontLemmas.{starts, starts_after}
 use Rattle.result_text.specs.AnswerText.{row_line, row_lines}
 
 -- ---- whole numbers call for no quotes
@@ -66,7 +66,9 @@ quoted_all before text now field i low is more =
     more ∙ ap (λ (t : List ℕ). t ++ 34 ∷ []) (is ∙ ap (λ (t : List ℕ). before ++ 34 ∷ escaped default_writer t) (take_all i field low))
     ∙ append_assoc before (34 ∷ escaped default_writer field) (34 ∷ [])
 
-pub ruleset quoted_steps = (quoted_none, quoted_more, quoted_all)
+pub ruleset escape_steps = (escape_quote, escape_other, starts)
+
+pub ruleset quoted_steps = (quoted_none, quoted_more, quoted_all, starts)
 
 -- ---- lines
 
@@ -160,4 +162,8 @@ pub line_all : (before text : List ℕ) (row : List Cell) (i : ℕ) → length r
     → text ≡ before ++ row_body default_writer (map printed row)
 line_all before text row i low is = is ∙ ap (λ (t : List (List ℕ)). before ++ row_body default_writer t) (take_all i (map printed row) (omega (arith, length-map row printed)))
 
+pub ruleset end_steps = (blank_line, shown_line, starts)
+
 pub ruleset row_steps = (line_none, line_more, cell_more, line_all, header_more, lines_none, lines_more, lines_all, starts_two)
+
+pub ruleset line_steps = (row_steps, starts)

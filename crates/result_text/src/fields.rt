@@ -28,7 +28,7 @@ fn is_quoted(field: &[u8]) -> bool
 
 /// Appends a byte of a field in quotes: a quote twice.
 #[inline]
-#[tactic(auto, using(crate::proofs::LineSteps::escape_quote, crate::proofs::LineSteps::escape_other, dfx_value::proofs::FrontLemmas::starts))]
+#[tactic(auto, using(crate::proofs::LineSteps::escape_steps))]
 fn push_escaped(text: &mut Vec<u8>, byte: u8) -> Result<(), NoMemory>
     ensures { Appends result text.old.items (escaped default_writer (byte ∷ [])) text.new.items }
 {
@@ -40,7 +40,7 @@ fn push_escaped(text: &mut Vec<u8>, byte: u8) -> Result<(), NoMemory>
 }
 
 /// Appends a field in quotes.
-#[tactic(auto, using(crate::proofs::LineSteps::quoted_steps, dfx_value::proofs::FrontLemmas::starts))]
+#[tactic(auto, using(crate::proofs::LineSteps::quoted_steps))]
 fn push_quoted(text: &mut Vec<u8>, field: &[u8]) -> Result<(), NoMemory>
     ensures { Appends result text.old.items (quoted default_writer field.now) text.new.items }
 {
@@ -114,7 +114,7 @@ pub fn push_separator(text: &mut Vec<u8>, place: usize) -> Result<(), NoMemory>
 }
 
 /// Ends a line that begins at this place: where it shows no byte, two quotes stand for its one empty field.
-#[tactic(auto, using(crate::proofs::LineSteps::blank_line, crate::proofs::LineSteps::shown_line, dfx_value::proofs::FrontLemmas::starts))]
+#[tactic(auto, using(crate::proofs::LineSteps::end_steps))]
 pub fn end_line(text: &mut Vec<u8>, start: usize) -> Result<(), NoMemory>
     ensures { (before : List ℕ) (fields : List (List ℕ)) → start ≡ length before
         → text.old.items ≡ before ++ row_body default_writer fields

@@ -55,7 +55,7 @@ impl RowLines {
     }
 
     /// Appends the line of a row.
-    #[tactic(auto, using(crate::proofs::LineSteps::row_steps, dfx_value::proofs::FrontLemmas::starts))]
+    #[tactic(auto, using(crate::proofs::LineSteps::line_steps))]
     pub fn push_row(&mut self, row: &Row) -> Result<(), NoMemory>
         ensures { Appends result self.old (row_line row.now) self.new }
     {
@@ -83,11 +83,12 @@ impl RowLines {
     }
 
     /// Appends the line of the row of a batch at a place.
-    #[tactic(auto, using(crate::proofs::LineSteps::row_steps, dfx_value::proofs::FrontLemmas::starts))]
+    #[tactic(auto, using(crate::proofs::LineSteps::line_steps))]
     fn push_row_at(&mut self, batch: &Batch, at: u32, width: u32) -> Result<(), NoMemory>
         requires row { at < length batch.now.rows }
         requires width { width ≡ length batch.now.kinds }
-        ensures { Appends result self.old (row_line (slice_index_or batch.now.rows at [])) self.new }
+        ensures { Appends result self.old
+            (row_line (slice_index_or batch.now.rows at [])) self.new }
     {
         let _ = batch.rows();
         let start = self.text.len();
@@ -99,7 +100,7 @@ impl RowLines {
     }
 
     /// Appends the lines of a batch's rows.
-    #[tactic(auto, using(crate::proofs::LineSteps::row_steps, dfx_value::proofs::FrontLemmas::starts))]
+    #[tactic(auto, using(crate::proofs::LineSteps::line_steps))]
     pub fn push_batch(&mut self, batch: &Batch) -> Result<(), NoMemory>
         ensures { Appends result self.old (row_lines batch.now.rows) self.new }
     {
