@@ -2,6 +2,8 @@
 use Rattle.std.proofs.Common.{◌≡◌, ◌≢◌, refl, ℕ, zero, suc, ◌+◌, ◌<◌, ◌≤◌, true, false, ◌==◌, eq-eqb, ne_eqb, List, [], ◌∷◌, ◌++◌, length, get_or, set, take, drop, drop-cons, add-one, Result, Ok, Err, All, ap, sym, ◌∙◌, arith, append_assoc}
 use Rattle.std.proofs.lemmas.List.{take_all, drop_all, append-nil, length-map, take_more_set, get_or-drop}
 use Rattle.std.proofs.Math.Seq.{drop-set-lt}
+use Rattle.dfx_value.proofs.KindSteps.{kind_steps}
+use Rattle.dfx_value.proofs.ParseLemmas.{utf8_tests}
 use Rattle.dfx_value.specs.Checked.{◌>>=◌}
 use Rattle.dfx_value.specs.declared.value.Value.{Value}
 use Rattle.value_columns.specs.Columns.{KindedValues, with_value}
@@ -12,6 +14,7 @@ use Rattle.csv_source.specs.declared.refused.CsvRefused.{CsvRefused}
 use Rattle.csv_source.specs.declared.refused.CsvRefused.TheVariants as refused
 use Rattle.csv_source.specs.CsvItems.{Item, field_value, cells_from}
 use Rattle.csv_columns.specs.Filled.{with_field, with_fields, with_record, behind, Even}
+use Rattle.csv_columns.proofs.ExtendSteps.{extend_steps}
 
 -- ---- one field after another
 
@@ -91,7 +94,9 @@ record_other n cs fs h =
 pub even_long : (n : ℕ) (cs : List KindedValues) → Even n cs → All (λ c. n ≤ length c.values) cs
 even_long n cs h = λ k d l. omega (arith, h k d l)
 
-pub ruleset fill_steps = (rest_more, fields_more, field_refused, fields_end, record_same, record_other)
+pub ruleset text_steps = (kind_steps, utf8_tests)
+
+pub ruleset fill_steps = (rest_more, fields_more, field_refused, fields_end, record_same, record_other, extend_steps)
 
 pub ruleset even_steps = (even_long)
 

@@ -10,6 +10,7 @@ use Rattle.column_batch.specs.Parts.{all_with, empties}
 use Rattle.column_batch.proofs.BuilderLemmas.{kinds-all_with, rows-before, row_at-last, fills-pushed, fills-empties}
 use Rattle.dfx_value.specs.Checked.{◌>>=◌}
 use Rattle.csv_columns.specs.Filled.{with_record, Even}
+use Rattle.csv_columns.proofs.ExtendSteps.{extend_steps}
 use Rattle.csv_source.specs.declared.refused.CsvRefused.{CsvRefused}
 use Rattle.csv_source.specs.declared.refused.CsvRefused.TheVariants as refused
 use Rattle.csv_source.specs.CsvItems.{Item, items_from, record_item, cells_from, field_value}
@@ -172,6 +173,6 @@ rows_none (Some items) = refl
 pub even_none : (kinds : List Kind) → Even 0 (empties kinds)
 even_none kinds = (fills-empties kinds).even refl
 
-pub ruleset row_steps = (kinds_put, even_put, rows_put, record_refused, items_none)
+pub ruleset row_steps = (kinds_put, even_put, rows_put, record_refused, items_none, extend_steps)
 
 pub ruleset batch_steps = (gives_full, gives_short, refused_after)

@@ -109,7 +109,7 @@ fn push_truth(column: &mut Column, field: &[u8]) -> Result<bool, NoMemory>
 }
 
 /// Puts the value that a text writes at the end: NULL where it is empty. False where the kind has no such value.
-#[tactic(auto, using(dfx_value::proofs::KindSteps::kind_steps, dfx_value::proofs::ParseLemmas::utf8_tests))]
+#[tactic(auto, using(crate::proofs::FillSteps::text_steps))]
 fn push_text(alloc: Global, column: &mut Column, text: &str) -> Result<bool, NoMemory>
     requires room { length column.old.values + 1 < 2 ^ 32 }
     ensures some { result ≡ Ok true → with_text column.old text.now ≡ Some column.new }

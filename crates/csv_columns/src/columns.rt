@@ -31,7 +31,7 @@ pub fn empty_columns(alloc: Global, kinds: &[Kind]) -> Result<Vec<Column>, NoMem
 
 /// Puts the fields of the record that was taken last, the record `number`, at the ends of the columns. After a
 /// refusal the columns are no longer of one length; the values before stay where they were.
-#[tactic(auto, using(crate::proofs::FillSteps::fill_steps, crate::proofs::ExtendSteps::extend_steps))]
+#[tactic(auto, using(crate::proofs::FillSteps::fill_steps))]
 pub fn push_record(
     alloc: Global,
     columns: &mut Vec<Column>,

@@ -67,7 +67,7 @@ pub fn next_record<S: Source>(source: &mut S, reader: &mut RecordReader) -> Resu
 }
 
 /// Puts the row of the next record at the ends of the columns; false where there is no record left.
-#[tactic(auto, using(crate::proofs::ItemSteps::row_steps, crate::proofs::ExtendSteps::extend_steps))]
+#[tactic(auto, using(crate::proofs::ItemSteps::row_steps))]
 fn push_next<S: Source>(
     alloc: Global,
     source: &mut S,
