@@ -2,3 +2,4 @@ mod ValueExamples
 mod TokenExamples
 mod LineExamples
 mod JournalExamples
+pub mod PairSteps

@@ -26,8 +26,8 @@ fn a_failed_scan(rt: HostRuntime) -> Result<(), Fail> {
         entries: Seq::from_vec(entries),
     };
     let text = journal_text(rt.alloc(), &journal)?;
-    let lines =
-        "dfx-journal 1 partitions=4 batch=8192 limit=1073741824\n0 0 claimed\n0 0 failed csv 1 4 2 3\n";
+    let lines = "dfx-journal 1 partitions=4 batch=8192 limit=1073741824\n\
+         0 0 claimed\n0 0 failed csv 1 4 2 3\n";
     assert_eq!(rt; text.as_slice(), lines.as_bytes());
     Ok(())
 }
