@@ -15,3 +15,5 @@ pub behind_byte : (done : List ℕ) (b : ℕ) (rest : Option (List ℕ))
     → behind_all done (option_map (λ bytes. b ∷ bytes) rest) ≡ behind_all (done ++ b ∷ []) rest
 behind_byte done b None = refl
 behind_byte done b (Some rest) = ap Some (search (append_assoc))
+
+pub ruleset behind_steps = (behind_none, behind_byte)

@@ -102,7 +102,7 @@ fn given(seen: Seen, byte: u8) -> Option<Gives>
 }
 
 /// The bytes that an escaped text stands for.
-#[tactic(auto, using(crate::proofs::EscapeSteps::behind_none, crate::proofs::EscapeSteps::behind_byte))]
+#[tactic(auto, using(crate::proofs::EscapeSteps::behind_steps))]
 pub fn unescaped(alloc: Global, text: &[u8]) -> Result<Vec<u8>, Why>
     ensures value { IfOk result (λ bytes. spec.unescaped text.now ≡ Some bytes.items) }
     ensures bad { result ≡ Err why.BadEscape → spec.unescaped text.now ≡ None }
